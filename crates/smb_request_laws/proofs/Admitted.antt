@@ -1,5 +1,5 @@
 -- Whom a request lets in.
-use Rattle.std.proofs.Common.{◌≡◌, ◌≢◌, ◌==◌, ◌∙◌, ℕ, ◌<◌, ◌⊎◌, inl, inr, Bool, true, false, if◌then◌else◌, List, [], ◌∷◌, ◌++◌, map, Option, None, Some, is_some, IfSome, refl, sym, ap, subst, arith}
+use Rattle.std.proofs.Common.{◌≡◌, ◌≢◌, ◌==◌, ◌∙◌, ℕ, ◌<◌, ◌⊎◌, inl, inr, Bool, true, false, ◌||◌, if◌then◌else◌, List, [], ◌∷◌, ◌++◌, map, Option, None, Some, is_some, IfSome, refl, sym, ap, subst, arith}
 use Rattle.std.proofs.lemmas.Bool.{eqb-true}
 use Rattle.std.proofs.lemmas.Bool.Decides.{nat_tests}
 use Rattle.std.specs.List.{AllByRecursion}
@@ -19,7 +19,8 @@ use Rattle.smb_session.specs.Numbers.{IsRising}
 use Rattle.smb_session.specs.Parts.{fresh_session, finished_by, begun, known_session_refusal, logoff_refusal, with_tree, without_tree}
 use Rattle.smb_session.specs.Session.{SessionState}
 use Rattle.smb_session.specs.Sessions.{setup_step, tree_connect_refusal}
-use Rattle.smb_session.specs.Setup.{setup_refusal, setup_result, table_answered}
+use Rattle.smb_session.specs.Setup.{setup_refusal, setup_result, signing_asked, table_answered}
+use Rattle.smb_session.specs.declared.signing.Signing.{Signing}
 use Rattle.smb_session.specs.Table.{TableState, session_at, session_ended, tree_disconnect_refusal}
 use Rattle.smb_refusals.specs.declared.session.SetupRefusal.{SetupRefusal}
 use Rattle.smb_refusals.specs.declared.refusal.Refusal.{Refusal}
@@ -39,7 +40,7 @@ use Rattle.smb_request.specs.Files.{file_created, file_closed}
 use Rattle.smb_request.specs.Laws.{IsInOrder, NumbersInOrder, request_ids}
 use Rattle.smb_request.specs.Parts.{asks_unlock, file_asked, lock_asks, setup_answered, setup_response, closed_for, file_locked, file_unlocked}
 use Rattle.smb_request.specs.Response.{CommandStep, ResponseState, refused, through_open, unless_refused}
-use Rattle.smb_request.specs.Session.{may_only_read, session_set_up, session_logged_off, tree_joined, tree_left}
+use Rattle.smb_request.specs.Session.{asks_to_sign, may_only_read, session_set_up, session_logged_off, tree_joined, tree_left}
 use Rattle.smb_request.specs.State.{ServerState}
 use Rattle.smb_request.proofs.InfoApart.{queried_left, info_set_left}
 use Rattle.smb_request.proofs.Leaving.{leaves_begun}
@@ -134,9 +135,9 @@ module _ {S : Type 0} (m : Meaning S) (it : Sent S) (o : IsInOrder it.server) wh
   act_left (asks_negotiate x) other = view_left server _ (Refusal.Negotiate NoDialect) (best_of x.dialects) same
   act_left (asks_session_setup x) other = absurd (other x refl)
   act_left (asks_logoff x) other = row_left _ (option_map (λ refusal. Refusal.Logoff refusal) (logoff_refusal table it.connection ids.session_id)) (keeps_ended table ids.session_id o.sessions)
-  act_left (asks_tree_connect x) other = row_left _ (option_map (λ refusal. Refusal.TreeConnect refusal) (tree_connect_refusal server.sessions it.connection ids.session_id x.path)) (keeps_changed with_tree table ids.session_id (λ x. (refl, refl, refl)))
+  act_left (asks_tree_connect x) other = row_left _ (option_map (λ refusal. Refusal.TreeConnect refusal) (tree_connect_refusal server.sessions it.connection ids.session_id x.path)) (keeps_changed with_tree table ids.session_id (λ x. (refl, refl, refl, refl)))
   act_left (asks_tree_disconnect x) other =
-      row_left _ (option_map (λ refusal. Refusal.TreeDisconnect refusal) (tree_disconnect_refusal table it.connection ids.session_id ids.tree_id)) (keeps_changed (without_tree ids.tree_id) table ids.session_id (λ x. (refl, refl, refl)))
+      row_left _ (option_map (λ refusal. Refusal.TreeDisconnect refusal) (tree_disconnect_refusal table it.connection ids.session_id ids.tree_id)) (keeps_changed (without_tree ids.tree_id) table ids.session_id (λ x. (refl, refl, refl, refl)))
   act_left (asks_create x) other =
       row_left _ (option_map (λ refusal. Refusal.Create refusal) (create_refusal server.store (file_asked ids x (may_only_read server (call_of it.connection it.moment it.dialect it.context it.request))))) same
   act_left (asks_close x) other = view_left _ _ (Refusal.Close CloseRefusal.UnknownOpen) (open_view server.store (call_of it.connection it.moment it.dialect it.context it.request).open_number) same
@@ -164,43 +165,54 @@ module _ {S : Type 0} (m : Meaning S) (it : Sent S) (o : IsInOrder it.server) wh
   abbrev begun_table : TableState
   begun_table = setup_table table it.connection ids.session_id
 
-  let_in_at : (asked : SessionSetupAsked) (user : List ℕ) (flags : ℕ) (read_only : Bool) (token : List ℕ) (n : ℕ) (state : SessionState) → body_of (command_in it.request) it.request ≡ Some (asks_session_setup asked) →
-      m.answer server.sessions.authenticator number asked.security_buffer ≡ accepts user flags read_only token → IsBegun begun_table number it.connection → number ≡ n →
-      session_at (table_answered begun_table number asked.previous_session_id (accepts user flags read_only token)) number ≡ Some state → IsLetIn m it n state
-  let_in_at asked user flags read_only token n state says accepted is own e =
-      let there : Some (finished_by user read_only is.state) ≡ Some state = sym (accepted_in begun_table number asked.previous_session_id user flags read_only token is.state is.at is.user) ∙ e in
-      let same_state : finished_by user read_only is.state ≡ state = cc in
+  -- how the messages of a session are signed that is let in so
+  abbrev signed : SessionSetupAsked → Option Signing → Option Signing
+  signed asked signing = option_map (λ (s : Signing). record s { required = s.required || asks_to_sign asked }) signing
+
+  -- what an answer leaves, where the client may ask that each of its requests is signed
+  abbrev after_answer : SessionSetupAsked → Answered → TableState
+  after_answer asked answer = table_answered begun_table number asked.previous_session_id (signing_asked (asks_to_sign asked) answer)
+
+  let_in_at : (asked : SessionSetupAsked) (user : List ℕ) (flags : ℕ) (read_only : Bool) (signing : Option Signing) (token : List ℕ) (n : ℕ) (state : SessionState) → body_of (command_in it.request) it.request ≡ Some (asks_session_setup asked) →
+      m.answer server.sessions.authenticator number asked.security_buffer ≡ accepts user flags read_only signing token → IsBegun begun_table number it.connection → number ≡ n →
+      session_at (after_answer asked (accepts user flags read_only signing token)) number ≡ Some state → IsLetIn m it n state
+  let_in_at asked user flags read_only signing token n state says accepted is own e =
+      let there : Some (finished_by user read_only (signed asked signing) is.state) ≡ Some state =
+      sym (accepted_in begun_table number asked.previous_session_id user flags read_only (signed asked signing) token is.state is.at is.user) ∙ e in
+      let same_state : finished_by user read_only (signed asked signing) is.state ≡ state = cc in
       let reads : read_only ≡ state.read_only = ap (λ (x : SessionState). x.read_only) same_state in
       record {
         asked = asked;
         user = user;
         flags = flags;
+        signing = signing;
         token = token;
         says = says;
         own = own;
-        accepted = ap (λ k. m.answer server.sessions.authenticator k asked.security_buffer) (sym own) ∙ accepted ∙ ap (λ b. accepts user flags b token) reads;
+        accepted = ap (λ k. m.answer server.sessions.authenticator k asked.security_buffer) (sym own) ∙ accepted ∙ ap (λ b. accepts user flags b signing token) reads;
         user_is = sym (ap (λ (x : SessionState). x.user) same_state);
+        signing_is = sym (ap (λ (x : SessionState). x.signing) same_state);
         connection = sym (ap (λ (x : SessionState). x.connection) same_state) ∙ is.connection;
       }
 
   answered_lets : (asked : SessionSetupAsked) (answer : Answered) → body_of (command_in it.request) it.request ≡ Some (asks_session_setup asked) → m.answer server.sessions.authenticator number asked.security_buffer ≡ answer →
-      IsBegun begun_table number it.connection → Lets (table_answered begun_table number asked.previous_session_id answer)
+      IsBegun begun_table number it.connection → Lets (after_answer asked answer)
   answered_lets asked (continues token) says a is n state e f = inl (set_up_keeps table server.store o it.connection ids.session_id n state e f)
   answered_lets asked denies says a is n state e f =
       inl (keeps_then table begun_table (session_ended begun_table number) (set_up_keeps table server.store o it.connection ids.session_id) (keeps_ended begun_table number (set_up_rising table server.store o it.connection ids.session_id)) n state e f)
-  answered_lets asked (accepts user flags read_only token) says a is n state e f =
-      let after = table_answered begun_table number asked.previous_session_id (accepts user flags read_only token) in
+  answered_lets asked (accepts user flags read_only signing token) says a is n state e f =
+      let after = after_answer asked (accepts user flags read_only signing token) in
       elim (n == number) as (λ b. n == number ≡ b → WasIn table n state ⊎ IsLetIn m it n state) [
         | true ↦ λ t. (
             let own : n ≡ number = eqb-true n number t in
             let P : ℕ → Type 0 = λ k. session_at after k ≡ Some state in
-            inr (let_in_at asked user flags read_only token n state says a is (sym own) (subst P own e)))
+            inr (let_in_at asked user flags read_only signing token n state says a is (sym own) (subst P own e)))
         | false ↦ λ t. inl (set_up_keeps table server.store o it.connection ids.session_id n state
-            (nobody_else begun_table number asked.previous_session_id n (accepts user flags read_only token) state (set_up_rising table server.store o it.connection ids.session_id) t e) f)
+            (nobody_else begun_table number asked.previous_session_id n (accepts user flags read_only (signed asked signing) token) state (set_up_rising table server.store o it.connection ids.session_id) t e) f)
       ] refl
 
   set_up_at : (asked : SessionSetupAsked) (refusal : Option Refusal) → body_of (command_in it.request) it.request ≡ Some (asks_session_setup asked) → option_map (λ refusal. Refusal.SessionSetup refusal) (setup_refusal table it.connection ids.session_id asked.flags.0) ≡ refusal →
-      Lets (unless_refused server ids refusal (setup_answered server ids (setup_step m server.sessions it.connection ids.session_id asked.previous_session_id asked.security_buffer))).server.sessions.table
+      Lets (unless_refused server ids refusal (setup_answered server ids (setup_step m server.sessions it.connection ids.session_id asked.previous_session_id (asks_to_sign asked) asked.security_buffer))).server.sessions.table
   set_up_at asked (Some row) says e = λ n state at f. inl (keeps_same table n state at f)
   set_up_at asked None says e =
       answered_lets asked (m.answer server.sessions.authenticator number asked.security_buffer) says refl
@@ -228,17 +240,18 @@ module _ {S : Type 0} (m : Meaning S) (it : Sent S) (o : IsInOrder it.server) wh
   In after = (state : SessionState) × (session_at after number ≡ Some state) × IsLetIn m it number state
 
   accepted_succeeds : (asked : SessionSetupAsked) (answer : Answered) → body_of (command_in it.request) it.request ≡ Some (asks_session_setup asked) → m.answer server.sessions.authenticator number asked.security_buffer ≡ answer →
-      IsBegun begun_table number it.connection → (let told = setup_result begun_table number asked.previous_session_id answer in setup_response (record ids { session_id = told.session }) told told.status).status ≡ Success →
-      In (table_answered begun_table number asked.previous_session_id answer)
+      IsBegun begun_table number it.connection → (let told = setup_result begun_table number asked.previous_session_id (signing_asked (asks_to_sign asked) answer) in setup_response (record ids { session_id = told.session }) told told.status).status ≡ Success →
+      In (after_answer asked answer)
   accepted_succeeds asked (continues token) says a is h = cc
   accepted_succeeds asked denies says a is h = cc
-  accepted_succeeds asked (accepts user flags read_only token) says a is h =
-      let e = accepted_in begun_table number asked.previous_session_id user flags read_only token is.state is.at is.user in
-      (finished_by user read_only is.state, e, let_in_at asked user flags read_only token number (finished_by user read_only is.state) says a is refl e)
+  accepted_succeeds asked (accepts user flags read_only signing token) says a is h =
+      let e = accepted_in begun_table number asked.previous_session_id user flags read_only (signed asked signing) token is.state is.at is.user in
+      let after = finished_by user read_only (signed asked signing) is.state in
+      (after, e, let_in_at asked user flags read_only signing token number after says a is refl e)
 
   succeeds_at : (asked : SessionSetupAsked) (refusal : Option SetupRefusal) → body_of (command_in it.request) it.request ≡ Some (asks_session_setup asked) → setup_refusal table it.connection ids.session_id asked.flags.0 ≡ refusal →
-      (unless_refused server ids (option_map (λ refusal. Refusal.SessionSetup refusal) refusal) (setup_answered server ids (setup_step m server.sessions it.connection ids.session_id asked.previous_session_id asked.security_buffer))).response.status ≡ Success →
-      In (unless_refused server ids (option_map (λ refusal. Refusal.SessionSetup refusal) refusal) (setup_answered server ids (setup_step m server.sessions it.connection ids.session_id asked.previous_session_id asked.security_buffer))).server.sessions.table
+      (unless_refused server ids (option_map (λ refusal. Refusal.SessionSetup refusal) refusal) (setup_answered server ids (setup_step m server.sessions it.connection ids.session_id asked.previous_session_id (asks_to_sign asked) asked.security_buffer))).response.status ≡ Success →
+      In (unless_refused server ids (option_map (λ refusal. Refusal.SessionSetup refusal) refusal) (setup_answered server ids (setup_step m server.sessions it.connection ids.session_id asked.previous_session_id (asks_to_sign asked) asked.security_buffer))).server.sessions.table
   succeeds_at asked (Some row) says e h = absurd (setup_fails row h)
   succeeds_at asked None says e h =
       accepted_succeeds asked (m.answer server.sessions.authenticator number asked.security_buffer) says refl
@@ -259,15 +272,15 @@ module _ {S : Type 0} (m : Meaning S) (it : Sent S) where
   abbrev IsClosedNot : CommandStep S → Type 0
   IsClosedNot step = step.response.status ≢ Success → step.server.store ≡ it.server.store
 
-  answered_closes : (asked : SessionSetupAsked) (sessions : TableState) (session : ℕ) (answer : Answered) → (let told = setup_result sessions session asked.previous_session_id answer in
+  answered_closes : (asked : SessionSetupAsked) (sessions : TableState) (session : ℕ) (answer : Answered) → (let told = setup_result sessions session asked.previous_session_id (signing_asked (asks_to_sign asked) answer) in
       (setup_response (record (request_ids it.context it.request) { session_id = told.session }) told told.status).status ≢ Success → closed_for it.server.store told.ended ≡ it.server.store)
   answered_closes asked sessions session (continues token) h = refl
   answered_closes asked sessions session denies h = refl
-  answered_closes asked sessions session (accepts user flags read_only token) h = absurd (h refl)
+  answered_closes asked sessions session (accepts user flags read_only signing token) h = absurd (h refl)
 
   set_up_closes_at : (asked : SessionSetupAsked) (refusal : Option Refusal) →
       IsClosedNot (unless_refused it.server (request_ids it.context it.request) refusal
-      (setup_answered it.server (request_ids it.context it.request) (setup_step m it.server.sessions it.connection (request_ids it.context it.request).session_id asked.previous_session_id asked.security_buffer)))
+      (setup_answered it.server (request_ids it.context it.request) (setup_step m it.server.sessions it.connection (request_ids it.context it.request).session_id asked.previous_session_id (asks_to_sign asked) asked.security_buffer)))
   set_up_closes_at asked (Some row) h = refl
   set_up_closes_at asked None h =
       let s = (request_ids it.context it.request).session_id in

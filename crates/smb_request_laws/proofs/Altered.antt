@@ -7,7 +7,7 @@ use Rattle.smb_refusals.specs.declared.request.RequestRefusal.{RequestRefusal}
 use Rattle.smb_refusals.specs.declared.request.RequestRefusal.TheVariants.{UnknownCommand, CommandNotPerformed, BodyUnreadable, ChargeTooSmall, UnknownTreeConnect, NoOpenHandedOn, CreateBeforeRefused, UnknownOpen}
 use Rattle.smb_body.specs.Requests.{RequestValue, payload_of}
 use Rattle.smb_session.specs.Authenticator.{Meaning}
-use Rattle.smb_session.specs.Table.{knows_session, knows_tree}
+use Rattle.smb_session.specs.Table.{knows_session, knows_tree, signing_of}
 use Rattle.smb_access.specs.declared.open_row.OpenRow.{OpenRow}
 use Rattle.smb_access.specs.declared.open_row.Owner.TheVariants.{Tree}
 use Rattle.smb_access.specs.Opens.{open_of, is_held_by}
@@ -19,7 +19,7 @@ use Rattle.smb_request.specs.Call.{body_of, call_of}
 use Rattle.smb_request.specs.Context.{named_on, open_named, open_for_next_related}
 use Rattle.smb_body.specs.Needs.{needs_of}
 use Rattle.smb_request.specs.Parts.{needs_session, needs_tree, is_unsupported, is_cancel_command, dialect_after}
-use Rattle.smb_request.specs.Request.{acted, performed}
+use Rattle.smb_request.specs.Request.{acted, signature_refusal, refused_by_signature, verified, performed}
 use Rattle.smb_request.specs.Response.{CommandStep, Performed, refused, unless_refused}
 use Rattle.smb_request.specs.State.{ServerState}
 
@@ -68,7 +68,10 @@ module _ {S : Type 0} (m : Meaning S) (rules : Rules S) where
       (rules.done server call.ids asked (acted m server call asked)))
       body
       (refused server call.ids (Refusal.Request (if is_none call.command then UnknownCommand else BodyUnreadable))) in
-      if is_cancel_command call.command
+      option_map_or
+      (refused_by_signature server call dialect)
+      (if is_cancel_command call.command then None else signature_refusal (signing_of server.sessions.table connection call.ids.session_id) request)
+      (if is_cancel_command call.command
       then record { server = server; dialect = dialect; context = record { ids = call.ids; last_open = named_on call.inherited call.file_id }; response = None }
       else record {
         server = step.server;
@@ -78,9 +81,9 @@ module _ {S : Type 0} (m : Meaning S) (rules : Rules S) where
           last_open = open_for_next_related call.inherited server.store.next call.command call.file_id step.response.status;
         };
         response = Some step.response;
-      }
+      })
 
 pub right_rules : {S : Type 0} (m : Meaning S) (connection moment : ℕ) (server : ServerState S) (dialect : Option Dialect) (context : Context) (request : List ℕ) →
     performed m connection moment server dialect context request ≡ performed_by_rules m right connection moment server dialect context request
-unfolding performed
+unfolding performed verified
 right_rules m connection moment server dialect context request = refl

@@ -14,7 +14,7 @@ use Rattle.smb_refusals.specs.Refusals.{refusal_status}
 use Rattle.smb_refusals.proofs.Fails.{set_basic_fails, set_disposition_fails, set_size_fails, rename_fails}
 use Rattle.smb_body.specs.Requests.{RequestValue, request_of, payload_of, asks_negotiate, asks_session_setup, asks_logoff, asks_tree_connect, asks_tree_disconnect, asks_create, asks_close, asks_flush, asks_read, asks_write, asks_lock, asks_cancel, asks_echo, asks_query_directory, asks_query_info, asks_set_info}
 use Rattle.smb_session.specs.Authenticator.{Meaning}
-use Rattle.smb_session.specs.Table.{knows_session, knows_tree}
+use Rattle.smb_session.specs.Table.{knows_session, knows_tree, signing_of}
 use Rattle.smb_access.specs.declared.open_row.OpenRow.{OpenRow}
 use Rattle.smb_access.specs.declared.open_row.Owner.TheVariants.{Tree}
 use Rattle.smb_access.specs.Opens.{open_of, is_held_by}
@@ -32,10 +32,11 @@ use Rattle.smb_request.specs.Context.{named_on, open_named, open_for_next_relate
 use Rattle.smb_request.specs.Laws.{request_ids}
 use Rattle.smb_body.specs.Needs.{needs_of}
 use Rattle.smb_request.specs.Parts.{needs_session, needs_tree, is_unsupported, is_cancel_command, dialect_after, open_refusal, performed_by, set_refusal}
-use Rattle.smb_request.specs.Request.{check_request, acted, performed}
+use Rattle.smb_request.specs.Request.{signature_refusal, refused_by_signature, check_request, acted, verified, performed}
 use Rattle.smb_request.specs.Response.{CommandStep, Performed, ResponseState, refused, through_open, unless_refused}
 use Rattle.smb_request.specs.State.{ServerState}
 use Rattle.smb_request_laws.specs.Acting.{command_in, IsNotRefusedBySuccess}
+use Rattle.smb_request_laws.proofs.Signed.{IsNoSuccess, signature_fails}
 use Rattle.smb_request_laws.proofs.Turned.{unread_fails}
 use Rattle.smb_request_laws.proofs.Under.{AreFair, named_fair}
 
@@ -138,16 +139,18 @@ module _ {S : Type 0} (server : ServerState S) (ids : HeaderIds) (check : Reques
   body_by false unknown (Some asked) off on = checked_by asked (check asked) refl (off asked refl) (on asked refl)
 
 module _ {S : Type 0} (m : Meaning S) (connection moment : ℕ) (server : ServerState S) (dialect : Option Dialect) (context : Context) (request : List ℕ) where
-  -- what a request comes to: nothing, where it is a CANCEL, or its step
-  abbrev pub step : CommandStep S
-  step = let call = call_of connection moment dialect context request in performed_by m server call (body_of call.command request)
-
-  pub comes_to : (P : ServerState S → Option ResponseState → Type 0) → P server None → P step.server (Some step.response) →
-      P (performed m connection moment server dialect context request).server (performed m connection moment server dialect context request).response
-  unfolding performed
-  comes_to P cancelled done =
+  -- a request's step, by why its signature refuses it
+  abbrev pub signed_step : Option RequestRefusal → CommandStep S
+  signed_step refusal =
       let call = call_of connection moment dialect context request in
-      elim (is_cancel_command call.command) as (λ b. let x : Performed S = if b then record {
+      option_map_or (λ row. refused server call.ids (Refusal.Request row)) refusal (performed_by m server call (body_of call.command request))
+
+  -- what a request is, by whether it is a CANCEL, and by why its signature refuses it
+  abbrev by_parts : Bool → Option RequestRefusal → Performed S
+  by_parts is_cancel refusal =
+      let call = call_of connection moment dialect context request in
+      let step = performed_by m server call (body_of call.command request) in
+      option_map_or (refused_by_signature server call dialect) (if is_cancel then None else refusal) (if is_cancel then record {
         server = server;
         dialect = dialect;
         context = record { ids = call.ids; last_open = named_on call.inherited call.file_id };
@@ -160,13 +163,31 @@ module _ {S : Type 0} (m : Meaning S) (connection moment : ℕ) (server : Server
           last_open = open_for_next_related call.inherited server.store.next call.command call.file_id step.response.status;
         };
         response = Some step.response;
-      } in P x.server x.response) [ true ↦ cancelled | false ↦ done ]
+      })
 
-  -- and the step: a refusal, or what its command does
-  pub step_by : (P : CommandStep S → Type 0) → ((refusal : Refusal) → (IsNotRefusedBySuccess context → refusal_status refusal ≢ Success) → P (refused server (request_ids context request) refusal)) →
+  comes_by : (P : ServerState S → Option ResponseState → Type 0) (is_cancel : Bool) (refusal : Option RequestRefusal) → P server None → P (signed_step refusal).server (Some (signed_step refusal).response) →
+      P (by_parts is_cancel refusal).server (by_parts is_cancel refusal).response
+  comes_by P true refusal cancelled done = cancelled
+  comes_by P false None cancelled done = done
+  comes_by P false (Some row) cancelled done = done
+
+  -- what a request comes to: nothing, where it is a CANCEL, or its step
+  abbrev pub step : CommandStep S
+  step =
+      let call = call_of connection moment dialect context request in
+      signed_step (signature_refusal (signing_of server.sessions.table connection call.ids.session_id) request)
+
+  pub comes_to : (P : ServerState S → Option ResponseState → Type 0) → P server None → P step.server (Some step.response) →
+      P (performed m connection moment server dialect context request).server (performed m connection moment server dialect context request).response
+  unfolding performed verified
+  comes_to P cancelled done =
+      let call = call_of connection moment dialect context request in
+      comes_by P (is_cancel_command call.command) (signature_refusal (signing_of server.sessions.table connection call.ids.session_id) request) cancelled done
+
+  checks_by : (P : CommandStep S → Type 0) → ((refusal : Refusal) → (IsNotRefusedBySuccess context → refusal_status refusal ≢ Success) → P (refused server (request_ids context request) refusal)) →
       ((asked : RequestValue) → body_of (command_in request) request ≡ Some asked → check_request server (call_of connection moment dialect context request) asked ≡ None → P (acted m server (call_of connection moment dialect context request) asked)) →
-      P step
-  step_by P off on =
+      P (performed_by m server (call_of connection moment dialect context request) (body_of (command_in request) request))
+  checks_by P off on =
       let call = call_of connection moment dialect context request in
       body_by server call.ids (check_request server call) (acted m server call) P (λ refusal not. off refusal (λ fair. not)) (option_map_or is_unsupported call.command false) (is_none call.command) (body_of call.command request)
       (λ asked e row t. off (Refusal.Request row) (λ fair. check_fails row (check_request server call asked) (checks_fail
@@ -176,6 +197,19 @@ module _ {S : Type 0} (m : Meaning S) (connection moment : ℕ) (server : Server
       (option_and_then (open_refusal server.store.opens call.ids) (option_map (open_named call.inherited) call.file_id))
       (named_fails server.store.opens call.ids (option_map (open_named call.inherited) call.file_id) (named_fair m connection moment server dialect context request fair))) t))
       on
+
+  signed_by : (P : CommandStep S → Type 0) (refusal : Option RequestRefusal) → IsNoSuccess refusal → ((row : RequestRefusal) → refusal_status (Refusal.Request row) ≢ Success → P (refused server (request_ids context request) (Refusal.Request row))) →
+      P (performed_by m server (call_of connection moment dialect context request) (body_of (command_in request) request)) → P (signed_step refusal)
+  signed_by P None fails off on = on
+  signed_by P (Some row) fails off on = off row fails
+
+  -- and the step: a refusal, or what its command does
+  pub step_by : (P : CommandStep S → Type 0) → ((refusal : Refusal) → (IsNotRefusedBySuccess context → refusal_status refusal ≢ Success) → P (refused server (request_ids context request) refusal)) →
+      ((asked : RequestValue) → body_of (command_in request) request ≡ Some asked → check_request server (call_of connection moment dialect context request) asked ≡ None → P (acted m server (call_of connection moment dialect context request) asked)) →
+      P step
+  step_by P off on =
+      let signing = signing_of server.sessions.table connection (request_ids context request).session_id in
+      signed_by P (signature_refusal signing request) (signature_fails signing request) (λ row fails. off (Refusal.Request row) (λ fair. fails)) (checks_by P off on)
 
 -- what is done where no row refuses
 pub row_done : {S : Type 0} (server : ServerState S) (ids : HeaderIds) (refusal : Option Refusal) (done : CommandStep S) → NoneIsSuccess refusal → (unless_refused server ids refusal done).response.status ≡ Success →

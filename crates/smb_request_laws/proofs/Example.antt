@@ -1,5 +1,5 @@
 -- An example: a share with one file, `A`, of one byte, and an open of it by session 1; and requests.
-use Rattle.std.proofs.Common.{◌≡◌, ℕ, List, [], ◌∷◌, ◌++◌, false, Some, bit_or}
+use Rattle.std.proofs.Common.{◌≡◌, ℕ, List, [], ◌∷◌, ◌++◌, false, None, Some, bit_or}
 use Rattle.smb_wire.specs.Access.{FILE_READ_DATA, FILE_WRITE_DATA}
 use Rattle.smb_wire.specs.Fields.{joined}
 use Rattle.smb_wire.specs.Limits.{default_limits}
@@ -71,7 +71,7 @@ store = record {
 -- a finished session of a connection, with these trees
 abbrev pub session : ℕ → List ℕ → SessionState
 session connection trees =
-    record { connection = connection; user = Some []; read_only = false; trees = trees; next_tree = 2 }
+    record { connection = connection; user = Some []; read_only = false; signing = None; trees = trees; next_tree = 2 }
 
 -- a share with these sessions, and with the file and the open
 abbrev pub server : {S : Type 0} → S → List (ℕ × SessionState) → ServerState S

@@ -28,14 +28,15 @@ use Rattle.smb_request.specs.declared.context.ContextOpen.TheVariants.{Named}
 use Rattle.smb_request.specs.Call.{body_of, call_of}
 use Rattle.smb_request.specs.Context.{named_on, open_for_next_related}
 use Rattle.smb_request.specs.Files.{file_created}
-use Rattle.smb_request.specs.Parts.{dialect_after, file_asked, is_cancel_command}
-use Rattle.smb_request.specs.Request.{performed}
-use Rattle.smb_request.specs.Response.{CommandStep, Performed, ResponseState}
+use Rattle.smb_request.specs.Parts.{dialect_after, file_asked, is_cancel_command, performed_by}
+use Rattle.smb_request.specs.Request.{verified, performed}
+use Rattle.smb_request.specs.Response.{CommandStep, Performed, ResponseState, failure}
 use Rattle.smb_request.specs.Session.{may_only_read}
 use Rattle.smb_request.specs.State.{ServerState}
+use Rattle.smb_request.proofs.Verified.{by_signature}
 use Rattle.smb_request_laws.specs.Doing.{answered}
 use Rattle.smb_request_laws.specs.Responses.{ACreateGivesItsOpen}
-use Rattle.smb_request_laws.proofs.Answered.{row_done, step, table_fails}
+use Rattle.smb_request_laws.proofs.Answered.{row_done, table_fails}
 use Rattle.smb_request_laws.proofs.Done.{is_acted}
 
 -- the next number is none's
@@ -78,15 +79,25 @@ some_is : {X : Type 0} (x y : X) → Some x ≡ Some y → x ≡ y
 some_is x y e = cc
 
 module _ {S : Type 0} (m : Meaning S) (connection moment : ℕ) (server : ServerState S) (dialect : Option Dialect) (context : Context) (request : List ℕ) where
-  handed : (response : ResponseState) → (performed m connection moment server dialect context request).response ≡ Some response →
-      (let call = call_of connection moment dialect context request in
-      (performed m connection moment server dialect context request).context.last_open
-      ≡ open_for_next_related call.inherited server.store.next call.command call.file_id response.status)
-  unfolding performed
-  handed response =
+  -- what a request hands on, by its response
+  abbrev Hands : ResponseState → Performed S → Type 0
+  Hands response ran =
       let call = call_of connection moment dialect context request in
-      let did : CommandStep S = step m connection moment server dialect context request in
-      elim (is_cancel_command call.command) as (λ b. let x : Performed S = if b then record {
+      ran.response ≡ Some response → ran.context.last_open ≡ open_for_next_related call.inherited server.store.next call.command call.file_id response.status
+
+  hands : (told response : ResponseState) → Some told ≡ Some response →
+      (let call = call_of connection moment dialect context request in
+      open_for_next_related call.inherited server.store.next call.command call.file_id told.status ≡ open_for_next_related call.inherited server.store.next call.command call.file_id response.status)
+  hands told response e =
+      let call = call_of connection moment dialect context request in
+      ap (λ (r : ResponseState). open_for_next_related call.inherited server.store.next call.command call.file_id r.status) (some_is told response e)
+
+  verified_handed : (response : ResponseState) → Hands response (verified m connection moment server dialect context request)
+  unfolding verified
+  verified_handed response =
+      let call = call_of connection moment dialect context request in
+      let did : CommandStep S = performed_by m server call (body_of call.command request) in
+      elim (is_cancel_command call.command) as (λ b. Hands response (let x : Performed S = if b then record {
         server = server;
         dialect = dialect;
         context = record { ids = call.ids; last_open = named_on call.inherited call.file_id };
@@ -99,10 +110,14 @@ module _ {S : Type 0} (m : Meaning S) (connection moment : ℕ) (server : Server
           last_open = open_for_next_related call.inherited server.store.next call.command call.file_id did.response.status;
         };
         response = Some did.response;
-      } in x.response ≡ Some response → x.context.last_open ≡ open_for_next_related call.inherited server.store.next call.command call.file_id response.status) [
-        | true ↦ λ e. cc
-        | false ↦ λ e. ap (λ (r : ResponseState). open_for_next_related call.inherited server.store.next call.command call.file_id r.status) (some_is did.response response e)
-      ]
+      } in x)) [ true ↦ λ e. cc | false ↦ hands did.response response ]
+
+  handed : (response : ResponseState) → Hands response (performed m connection moment server dialect context request)
+  handed response =
+      let call = call_of connection moment dialect context request in
+      by_signature m connection moment server dialect context request (Hands response)
+      (λ refusal. hands (failure call.ids (Refusal.Request refusal)) response)
+      (verified_handed response)
 
 pub gives_open : {S : Type 0} (m : Meaning S) → ACreateGivesItsOpen m
 gives_open {S} m it asked good create h =

@@ -13,6 +13,7 @@ use Rattle.smb_session.specs.Parts.{fresh_session, finished_by, begun, is_of_use
 use Rattle.smb_session.specs.Session.{SessionState}
 use Rattle.smb_session.specs.Setup.{table_answered, previous_ended}
 use Rattle.smb_session.specs.Table.{TableState, session_at, session_ended, session_changed, changed_at}
+use Rattle.smb_session.specs.declared.signing.Signing.{Signing}
 use Rattle.smb_request.proofs.Leaving.{look_removed, look_changed, gone}
 use Rattle.smb_request.proofs.Numbered.{at_is}
 use Rattle.smb_request_laws.specs.Admission.{WasIn}
@@ -43,7 +44,7 @@ abbrev pub Keeps : TableState → TableState → Type 0
 Keeps table table' = (n : ℕ) (after : SessionState) → session_at table' n ≡ Some after → is_some after.user ≡ true → WasIn table n after
 
 pub was : (table : TableState) (n : ℕ) (after : SessionState) → session_at table n ≡ Some after → WasIn table n after
-was table n after e = record { before = after; at = e; connection = refl; user = refl; read_only = refl }
+was table n after e = record { before = after; at = e; connection = refl; user = refl; read_only = refl; signing = refl }
 
 pub keeps_same : (table : TableState) → Keeps table table
 keeps_same table n after e f = was table n after e
@@ -52,7 +53,14 @@ pub keeps_then : (table table' table'' : TableState) → Keeps table table' → 
 keeps_then table table' table'' one two n after e f =
     let later = two n after e f in
     let first = one n later.before later.at (ap (λ (u : Option (List ℕ)). is_some u) later.user ∙ f) in
-    record { before = first.before; at = first.at; connection = first.connection ∙ later.connection; user = first.user ∙ later.user; read_only = first.read_only ∙ later.read_only }
+    record {
+      before = first.before;
+      at = first.at;
+      connection = first.connection ∙ later.connection;
+      user = first.user ∙ later.user;
+      read_only = first.read_only ∙ later.read_only;
+      signing = first.signing ∙ later.signing;
+    }
 
 none_some : (o : Option SessionState) (after : SessionState) → o ≡ None → o ≡ Some after → ⊥
 none_some o after e f = let both : None ≡ Some after = sym e ∙ f in cc
@@ -70,7 +78,7 @@ pub keeps_ended : (table : TableState) (p : ℕ) → IsRising (map (λ e. e.0) t
 keeps_ended table p rising n after e f = was table n after (ended_before table p n after rising e)
 
 pub keeps_changed : (f : SessionState → SessionState) (table : TableState) (s : ℕ) →
-    ((x : SessionState) → ((f x).connection ≡ x.connection) × ((f x).user ≡ x.user) × ((f x).read_only ≡ x.read_only)) → Keeps table (session_changed f table s)
+    ((x : SessionState) → ((f x).connection ≡ x.connection) × ((f x).user ≡ x.user) × ((f x).read_only ≡ x.read_only) × ((f x).signing ≡ x.signing)) → Keeps table (session_changed f table s)
 keeps_changed f table s same n after e finished =
     elim (n == s) as (λ b. n == s ≡ b → WasIn table n after) [
       | true ↦ λ t. (
@@ -89,6 +97,7 @@ keeps_changed f table s same n after e finished =
           connection = sym (same x).0 ∙ ap (λ (y : SessionState). y.connection) is;
           user = sym (same x).1 ∙ ap (λ (y : SessionState). y.user) is;
           read_only = sym (same x).2 ∙ ap (λ (y : SessionState). y.read_only) is;
+          signing = sym (same x).3 ∙ ap (λ (y : SessionState). y.signing) is;
         }
 
 -- a session that begins is not finished
@@ -121,11 +130,11 @@ previous_is_other table session previous user state false t e none = by_test (op
     by_test true = look_removed session previous table.sessions t ∙ e
     by_test false = e
 
-pub accepted_in : (table : TableState) (session previous : ℕ) (user : List ℕ) (flags : ℕ) (read_only : Bool) (token : List ℕ) (state : SessionState) → session_at table session ≡ Some state → state.user ≡ None →
-    session_at (table_answered table session previous (accepts user flags read_only token)) session ≡ Some (record state { user = Some user; read_only = read_only })
-accepted_in table session previous user flags read_only token state e none =
-    changed_here (finished_by user read_only) (option_map_or (session_ended table) (previous_ended table user previous) table) session
-    ∙ ap (option_map (finished_by user read_only)) (previous_is_other table session previous user state (session == previous) refl e none)
+pub accepted_in : (table : TableState) (session previous : ℕ) (user : List ℕ) (flags : ℕ) (read_only : Bool) (signing : Option Signing) (token : List ℕ) (state : SessionState) → session_at table session ≡ Some state → state.user ≡ None →
+    session_at (table_answered table session previous (accepts user flags read_only signing token)) session ≡ Some (record state { user = Some user; read_only = read_only; signing = signing })
+accepted_in table session previous user flags read_only signing token state e none =
+    changed_here (finished_by user read_only signing) (option_map_or (session_ended table) (previous_ended table user previous) table) session
+    ∙ ap (option_map (finished_by user read_only signing)) (previous_is_other table session previous user state (session == previous) refl e none)
 
 pub denied_out : (table : TableState) (session previous : ℕ) → IsRising (map (λ e. e.0) table.sessions) → session_at (table_answered table session previous denies) session ≡ None
 denied_out table session previous rising = gone session table.sessions rising
@@ -134,6 +143,6 @@ pub nobody_else : (table : TableState) (session previous number : ℕ) (answer :
     session_at (table_answered table session previous answer) number ≡ Some state → session_at table number ≡ Some state
 nobody_else table session previous number (continues token) state rising other e = e
 nobody_else table session previous number denies state rising other e = ended_before table session number state rising e
-nobody_else table session previous number (accepts user flags read_only token) state rising other e =
+nobody_else table session previous number (accepts user flags read_only signing token) state rising other e =
     let before = option_map_or (session_ended table) (previous_ended table user previous) table in
-    previous_before table (previous_ended table user previous) number state rising (sym (look_changed (finished_by user read_only) number session before.sessions other) ∙ e)
+    previous_before table (previous_ended table user previous) number state rising (sym (look_changed (finished_by user read_only signing) number session before.sessions other) ∙ e)

@@ -1,3 +1,4 @@
+mod Signed
 mod Turned
 pub mod Under
 pub mod Answered

@@ -23,7 +23,8 @@ use Rattle.smb_body.specs.declared.reserved.ReservedRequest.{ReservedRequest}
 use Rattle.smb_session.specs.Authenticator.{Meaning, accepts}
 use Rattle.smb_session.specs.Laws.{setup_number}
 use Rattle.smb_session.specs.Setup.{setup_refusal}
-use Rattle.smb_session.specs.Table.{knows_session, knows_tree}
+use Rattle.smb_session.specs.Table.{knows_session, knows_tree, signing_of}
+use Rattle.smb_session.specs.declared.signing.Signing.{Signing}
 use Rattle.smb_access.specs.declared.view.View.{View}
 use Rattle.smb_opens.specs.Bytes.{read_refusals, read_status, write_refusals, write_status}
 use Rattle.smb_opens.specs.State.{StoreState}
@@ -38,7 +39,7 @@ use Rattle.smb_request.specs.Context.{open_named}
 use Rattle.smb_request.specs.Laws.{request_ids}
 use Rattle.smb_body.specs.Needs.{needs_of}
 use Rattle.smb_request.specs.Parts.{needs_session, needs_tree, is_unsupported, is_cancel_command, open_refusal, number_named, performed_by}
-use Rattle.smb_request.specs.Request.{check_request, acted, performed}
+use Rattle.smb_request.specs.Request.{check_request, acted, signature_refusal, verified, performed}
 use Rattle.smb_request.specs.Response.{CommandStep, refused, through_open, unless_refused}
 use Rattle.smb_request.specs.Session.{session_set_up}
 use Rattle.smb_request.specs.State.{ServerState}
@@ -80,20 +81,24 @@ supported : (asked : RequestValue) → is_unsupported (command_for asked) ≡ fa
 supported asked = grind (arith)
 
 module _ {S : Type 0} (m : Meaning S) (it : Sent S) where
-  step_told : is_cancel_command (command_in it.request) ≡ false →
-      response_status (answered m it) ≡ Some (performed_by m it.server (call_of it.connection it.moment it.dialect it.context it.request) (body_of (command_in it.request) it.request)).response.status
-  unfolding performed
-  step_told other = rw other refl
+  -- its signature does not refuse it
+  abbrev Passes : Type 0
+  Passes = signature_refusal (signing_of it.server.sessions.table it.connection (request_ids it.context it.request).session_id) it.request ≡ None
 
-  served : (asked : RequestValue) → body_of (command_in it.request) it.request ≡ Some asked → is_cancel_command (Some (command_for asked)) ≡ false →
+  step_told : is_cancel_command (command_in it.request) ≡ false → Passes →
+      response_status (answered m it) ≡ Some (performed_by m it.server (call_of it.connection it.moment it.dialect it.context it.request) (body_of (command_in it.request) it.request)).response.status
+  unfolding performed verified
+  step_told other passes = rw (other, passes) refl
+
+  served : (asked : RequestValue) → body_of (command_in it.request) it.request ≡ Some asked → Passes → is_cancel_command (Some (command_for asked)) ≡ false →
       check_request it.server (call_of it.connection it.moment it.dialect it.context it.request) asked ≡ None → (acts m it asked).response.status ≡ Success → response_status (answered m it) ≡ Some Success
-  served asked says other e h =
+  served asked says passes other e h =
       let call = call_of it.connection it.moment it.dialect it.context it.request in
       let command = says_command (command_in it.request) it.request asked says in
       let cancel = ap is_cancel_command command ∙ other in
       let unsupported = ap (λ c. option_map_or is_unsupported c false) command ∙ supported asked in
       let step = acts_by it.server call.ids (check_request it.server call) (acted m it.server call) (option_map_or is_unsupported (command_in it.request) false) (is_none (command_in it.request)) (body_of (command_in it.request) it.request) asked unsupported says e in
-      step_told cancel ∙ ap (λ (s : CommandStep S). Some s.response.status) step ∙ ap (λ (s : NtStatus). Some s) h
+      step_told cancel passes ∙ ap (λ (s : CommandStep S). Some s.response.status) step ∙ ap (λ (s : NtStatus). Some s) h
 
   not_less : (a b : ℕ) → a ≤ b → nat_lt b a ≡ false
   not_less a b h = grind (arith, nat_tests, h)
@@ -119,26 +124,26 @@ module _ {S : Type 0} (m : Meaning S) (it : Sent S) where
   -- ECHO
   pub echo_answered : (asked : ReservedRequest) → Asks it (asks_echo asked) → response_status (answered m it) ≡ Some Success
   echo_answered asked h =
-      served (asks_echo asked) h.says refl (checks_pass
+      served (asks_echo asked) h.says h.passes refl (checks_pass
       (nat_lt (call_of it.connection it.moment it.dialect it.context it.request).charge ((payload_of (asks_echo asked) - 1) / 65536 + 1))
       false false
       (option_and_then (open_refusal it.server.store.opens ids) (option_map (open_named inherited) file_id))
       (charge_passes (asks_echo asked) h) refl refl (none_named file_id (file_id_is (asks_echo asked) h.says))) refl
 
   -- SESSION_SETUP
-  set_up_succeeds : (asked : SessionSetupAsked) (user : List ℕ) (flags : ℕ) (read_only : Bool) (token : List ℕ) → setup_refusal it.server.sessions.table it.connection ids.session_id asked.flags.0 ≡ None →
-      m.answer it.server.sessions.authenticator (setup_number it.server.sessions.table ids.session_id) asked.security_buffer ≡ accepts user flags read_only token → (acts m it (asks_session_setup asked)).response.status ≡ Success
+  set_up_succeeds : (asked : SessionSetupAsked) (user : List ℕ) (flags : ℕ) (read_only : Bool) (signing : Option Signing) (token : List ℕ) → setup_refusal it.server.sessions.table it.connection ids.session_id asked.flags.0 ≡ None →
+      m.answer it.server.sessions.authenticator (setup_number it.server.sessions.table ids.session_id) asked.security_buffer ≡ accepts user flags read_only signing token → (acts m it (asks_session_setup asked)).response.status ≡ Success
   unfolding session_set_up
-  set_up_succeeds asked user flags read_only token e a = rw (e, a) refl
+  set_up_succeeds asked user flags read_only signing token e a = rw (e, a) refl
 
-  pub set_up_told : (asked : SessionSetupAsked) (user : List ℕ) (flags : ℕ) (read_only : Bool) (token : List ℕ) → Asks it (asks_session_setup asked) → setup_refusal it.server.sessions.table it.connection ids.session_id asked.flags.0 ≡ None →
-      m.answer it.server.sessions.authenticator (setup_number it.server.sessions.table ids.session_id) asked.security_buffer ≡ accepts user flags read_only token → response_status (answered m it) ≡ Some Success
-  set_up_told asked user flags read_only token h e a =
-      served (asks_session_setup asked) h.says refl (checks_pass
+  pub set_up_told : (asked : SessionSetupAsked) (user : List ℕ) (flags : ℕ) (read_only : Bool) (signing : Option Signing) (token : List ℕ) → Asks it (asks_session_setup asked) → setup_refusal it.server.sessions.table it.connection ids.session_id asked.flags.0 ≡ None →
+      m.answer it.server.sessions.authenticator (setup_number it.server.sessions.table ids.session_id) asked.security_buffer ≡ accepts user flags read_only signing token → response_status (answered m it) ≡ Some Success
+  set_up_told asked user flags read_only signing token h e a =
+      served (asks_session_setup asked) h.says h.passes refl (checks_pass
       (nat_lt (call_of it.connection it.moment it.dialect it.context it.request).charge ((payload_of (asks_session_setup asked) - 1) / 65536 + 1))
       false false
       (option_and_then (open_refusal it.server.store.opens ids) (option_map (open_named inherited) file_id))
-      (charge_passes (asks_session_setup asked) h) refl refl (none_named file_id (file_id_is (asks_session_setup asked) h.says))) (set_up_succeeds asked user flags read_only token e a)
+      (charge_passes (asks_session_setup asked) h) refl refl (none_named file_id (file_id_is (asks_session_setup asked) h.says))) (set_up_succeeds asked user flags read_only signing token e a)
 
   -- READ and WRITE
   named_is : (asked : RequestValue) (id : FileId) → Asks it asked → file_id_of asked ≡ Some id → IsOfItsOwn it id → option_map (open_named inherited) file_id ≡ Some (Named id)
@@ -172,7 +177,7 @@ module _ {S : Type 0} (m : Meaning S) (it : Sent S) where
       let number = (call_of it.connection it.moment it.dialect it.context it.request).open_number in
       let own_number = opened_is (asks_read asked) asked.file_id h refl own in
       let status = ap (λ n. read_status store (most_at_once it.dialect) n asked.offset asked.length asked.minimum_count) own_number ∙ e in
-      served (asks_read asked) h.says refl (own_passes (asks_read asked) asked.file_id h refl refl refl own)
+      served (asks_read asked) h.says h.passes refl (own_passes (asks_read asked) asked.file_id h refl refl refl own)
       (row_served it.server _ _ (table_passes (λ refusal. Refusal.Read refusal) read_fails store number (read_refusals store (most_at_once it.dialect) number asked.offset asked.length asked.minimum_count) status) refl)
 
   pub write_succeeds : (asked : WriteAsked) → Asks it (asks_write asked) → IsOfItsOwn it asked.file_id →
@@ -183,5 +188,5 @@ module _ {S : Type 0} (m : Meaning S) (it : Sent S) where
       let number = (call_of it.connection it.moment it.dialect it.context it.request).open_number in
       let own_number = opened_is (asks_write asked) asked.file_id h refl own in
       let status = ap (λ n. write_status store (most_at_once it.dialect) n asked.offset asked.buffer) own_number ∙ e in
-      served (asks_write asked) h.says refl (own_passes (asks_write asked) asked.file_id h refl refl refl own)
+      served (asks_write asked) h.says h.passes refl (own_passes (asks_write asked) asked.file_id h refl refl refl own)
       (row_served it.server _ _ (table_passes (λ refusal. Refusal.Write refusal) write_fails store number (write_refusals store (most_at_once it.dialect) number asked.offset asked.buffer) status) refl)

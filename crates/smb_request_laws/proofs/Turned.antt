@@ -19,10 +19,11 @@ use Rattle.smb_request.specs.Call.{body_of, call_of}
 use Rattle.smb_request.specs.Context.{named_on, open_for_next_related}
 use Rattle.smb_body.specs.Needs.{needs_of}
 use Rattle.smb_request.specs.Parts.{needs_session, needs_tree, is_unsupported, is_cancel_command, dialect_after, performed_by}
-use Rattle.smb_request.specs.Request.{check_request, acted, performed}
+use Rattle.smb_request.specs.Request.{check_request, acted, verified, performed}
 use Rattle.smb_request.specs.Response.{CommandStep, Performed, refused, unless_refused}
 use Rattle.smb_request.specs.State.{ServerState}
 use Rattle.smb_request_laws.specs.Acting.{IsTurnedAway}
+use Rattle.smb_request_laws.proofs.Signed.{by_refusal}
 
 -- what a request needs: a session, a tree connect, an open
 abbrev pub needs : RequestValue → Bool × Bool × Bool
@@ -128,29 +129,39 @@ module _ {S : Type 0} (server : ServerState S) (ids : HeaderIds) where
   body_turned check act false unknown None h = refused_turned (Refusal.Request (if unknown then UnknownCommand else BodyUnreadable)) (unread_fails unknown)
   body_turned check act false unknown (Some asked) h = checked_turned (check asked) (act asked) (h refl asked refl)
 
-pub turned : {S : Type 0} (m : Meaning S) (connection moment : ℕ) (server : ServerState S) (dialect : Option Dialect) (context : Context) (request : List ℕ) →
-    (let call = call_of connection moment dialect context request in
-    is_cancel_command call.command ≡ false → option_map_or is_unsupported call.command false ≡ false → (asked : RequestValue) → body_of call.command request ≡ Some asked → IsFailure (check_request server call asked)) →
-    IsTurnedAway server (performed m connection moment server dialect context request)
-unfolding performed
-turned {S} m connection moment server dialect context request h =
-    let call = call_of connection moment dialect context request in
-    elim (is_cancel_command call.command) as (λ b. is_cancel_command call.command ≡ b → IsTurnedAway server (let x : Performed S = if b then record {
-      server = server;
-      dialect = dialect;
-      context = record { ids = call.ids; last_open = named_on call.inherited call.file_id };
-      response = None;
-    } else record {
-      server = (performed_by m server call (body_of call.command request)).server;
-      dialect = option_map_or (dialect_after dialect) (body_of call.command request) dialect;
-      context = record {
-        ids = (performed_by m server call (body_of call.command request)).response.ids;
-        last_open = open_for_next_related call.inherited server.store.next call.command call.file_id (performed_by m server call (body_of call.command request)).response.status;
-      };
-      response = Some (performed_by m server call (body_of call.command request)).response;
-    } in x)) [
-      | true ↦ λ t. record { unchanged = refl; response = tt }
-      | false ↦ λ t. (
-          let step = body_turned server call.ids (check_request server call) (acted m server call) (option_map_or is_unsupported call.command false) (is_none call.command) (body_of call.command request) (λ u asked e. h t u asked e) in
-          record { unchanged = step.0; response = (step.1, step.2) })
-    ] refl
+module _ {S : Type 0} (m : Meaning S) (connection moment : ℕ) (server : ServerState S) (dialect : Option Dialect) (context : Context) (request : List ℕ) where
+  -- a request whose body is read fails by its checks
+  abbrev pub FailsItsChecks : Type 0
+  FailsItsChecks =
+      let call = call_of connection moment dialect context request in
+      is_cancel_command call.command ≡ false → option_map_or is_unsupported call.command false ≡ false → (asked : RequestValue) → body_of call.command request ≡ Some asked → IsFailure (check_request server call asked)
+
+  verified_turned : FailsItsChecks → IsTurnedAway server (verified m connection moment server dialect context request)
+  unfolding verified
+  verified_turned h =
+      let call = call_of connection moment dialect context request in
+      elim (is_cancel_command call.command) as (λ b. is_cancel_command call.command ≡ b → IsTurnedAway server (let x : Performed S = if b then record {
+        server = server;
+        dialect = dialect;
+        context = record { ids = call.ids; last_open = named_on call.inherited call.file_id };
+        response = None;
+      } else record {
+        server = (performed_by m server call (body_of call.command request)).server;
+        dialect = option_map_or (dialect_after dialect) (body_of call.command request) dialect;
+        context = record {
+          ids = (performed_by m server call (body_of call.command request)).response.ids;
+          last_open = open_for_next_related call.inherited server.store.next call.command call.file_id (performed_by m server call (body_of call.command request)).response.status;
+        };
+        response = Some (performed_by m server call (body_of call.command request)).response;
+      } in x)) [
+        | true ↦ λ t. record { unchanged = refl; response = tt }
+        | false ↦ λ t. (
+            let step = body_turned server call.ids (check_request server call) (acted m server call) (option_map_or is_unsupported call.command false) (is_none call.command) (body_of call.command request) (λ u asked e. h t u asked e) in
+            record { unchanged = step.0; response = (step.1, step.2) })
+      ] refl
+
+  pub turned : FailsItsChecks → IsTurnedAway server (performed m connection moment server dialect context request)
+  turned h =
+      by_refusal m connection moment server dialect context request (IsTurnedAway server)
+      (λ refusal fails. record { unchanged = refl; response = (fails, refl) })
+      (verified_turned h)

@@ -24,10 +24,11 @@ use Rattle.smb_request.specs.Context.{first_context, named_on, open_named, open_
 use Rattle.smb_request.specs.Laws.{request_ids}
 use Rattle.smb_body.specs.Needs.{needs_of}
 use Rattle.smb_request.specs.Parts.{needs_session, needs_tree, is_unsupported, is_cancel_command, dialect_after, open_refusal, number_named, performed_by}
-use Rattle.smb_request.specs.Request.{performed}
+use Rattle.smb_request.specs.Request.{verified, performed}
 use Rattle.smb_request.specs.Response.{Performed}
 use Rattle.smb_request.specs.State.{ServerState}
 use Rattle.smb_request.proofs.Handed.{mapped_there}
+use Rattle.smb_request.proofs.Verified.{by_signature}
 use Rattle.smb_request_laws.specs.Acting.{command_in, is_of_anyone, is_of_a_session, is_of_a_tree, IsTurnedAway, IsNotRefusedBySuccess}
 use Rattle.smb_request_laws.proofs.Turned.{need_of, needs_by, IsFailure, no_session, no_tree, no_open, turned}
 
@@ -169,9 +170,9 @@ module _ {S : Type 0} (m : Meaning S) (connection moment : ℕ) (server : Server
       let id : is_some file_id ≡ true = ap (λ (o : Option RequestValue). is_some (option_and_then file_id_of o)) e ∙ needed in
       no_open (nat_lt charge ((payload_of asked - 1) / 65536 + 1)) _ _ _ (named_fails server.store.opens (request_ids context request) (option_map (open_named inherited) file_id) (mapped_there (open_named inherited) file_id id) (named_fair fair) none))
 
-  pub stays_fair : IsNotRefusedBySuccess context → IsNotRefusedBySuccess (performed m connection moment server dialect context request).context
-  unfolding performed
-  stays_fair fair =
+  verified_stays_fair : IsNotRefusedBySuccess context → IsNotRefusedBySuccess (verified m connection moment server dialect context request).context
+  unfolding verified
+  verified_stays_fair fair =
       let call = call_of connection moment dialect context request in
       elim (is_cancel_command call.command) as (λ b. IsNotRefusedBySuccess (let x : Performed S = if b then record {
         server = server;
@@ -190,3 +191,9 @@ module _ {S : Type 0} (m : Meaning S) (connection moment : ℕ) (server : Server
         | true ↦ on_fair call.inherited call.file_id (call_fair fair)
         | false ↦ next_fair call.inherited server.store.next call.command call.file_id _ (call_fair fair)
       ]
+
+  pub stays_fair : IsNotRefusedBySuccess context → IsNotRefusedBySuccess (performed m connection moment server dialect context request).context
+  stays_fair fair =
+      by_signature m connection moment server dialect context request (λ done. IsNotRefusedBySuccess done.context)
+      (λ refusal. next_fair inherited server.store.next (command_in request) file_id _ (call_fair fair))
+      (verified_stays_fair fair)

@@ -23,7 +23,7 @@ use Rattle.smb_request.specs.Context.{first_context}
 use Rattle.smb_request.specs.Laws.{request_ids}
 use Rattle.smb_body.specs.Needs.{needs_of}
 use Rattle.smb_request.specs.Parts.{needs_session, needs_tree}
-use Rattle.smb_request.specs.Request.{performed}
+use Rattle.smb_request.specs.Request.{verified, performed}
 use Rattle.smb_request.specs.Response.{Performed}
 use Rattle.smb_request.specs.State.{ServerState}
 use Rattle.smb_request_laws.specs.Acting.{command_in, is_of_anyone, is_of_a_session, is_of_a_tree, IsTurnedAway, IsNotRefusedBySuccess, NothingIsDoneWithoutASession, NobodyChangesNothing, NothingIsDoneWithoutATree, NothingIsDoneWithoutAnOpen, NoCreateIsRefusedBySuccess}
@@ -132,7 +132,7 @@ hands_on_its_status m connection moment server dialect context request =
 
 a_success_refuses : {S : Type 0} (m : Meaning S) (accounts : S) →
     NoCreateIsRefusedBySuccessBy (hands_on_its_status m) → ⊥
-unfolding performed header_of known_command request_of spelling file_read
+unfolding performed verified header_of known_command request_of spelling file_read
 a_success_refuses m accounts law =
     law.1 1 0 (server accounts ((1, session 1 (1 ∷ [])) ∷ [])) None first_context (read_request 1 1) fair refl
 

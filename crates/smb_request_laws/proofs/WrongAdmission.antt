@@ -2,7 +2,7 @@
 -- A law whose name ends in By says of any definition what that of specs/ says of the right one, as the line below it
 -- shows; then come the wrong definition, and the proof that the law is false of it. `right_rules` shows that by the
 -- right rules a request leaves what it does leave.
-use Rattle.std.proofs.Common.{◌≡◌, ◌==◌, ◌∙◌, ◌⊎◌, inl, inr, ℕ, Bool, true, false, ◌≢◌, List, [], ◌∷◌, length, map, None, Some, is_some, IfSome, refl, sym, ap, arith}
+use Rattle.std.proofs.Common.{◌≡◌, ◌==◌, ◌∙◌, ◌⊎◌, inl, inr, ℕ, Bool, true, false, ◌≢◌, List, [], ◌∷◌, length, map, replicate, Option, None, Some, is_some, IfSome, refl, sym, ap, arith}
 use Rattle.smb_wire.specs.Commands.{known_command}
 use Rattle.smb_wire.specs.Number.{spelling}
 use Rattle.smb_wire.specs.declared.command.Command.TheVariants.{SessionSetup}
@@ -16,6 +16,7 @@ use Rattle.smb_session.specs.Numbers.{IsRising}
 use Rattle.smb_session.specs.Session.{SessionState}
 use Rattle.smb_session.specs.Setup.{table_answered}
 use Rattle.smb_session.specs.Table.{TableState, session_at, session_changed}
+use Rattle.smb_session.specs.declared.signing.Signing.{Signing}
 use Rattle.smb_opens.specs.State.{StoreState}
 use Rattle.smb_request.specs.Bytes.{file_read}
 use Rattle.smb_request.specs.Context.{first_context}
@@ -34,7 +35,7 @@ Answering = TableState → ℕ → ℕ → Answered → TableState
 
 -- a session that has begun on connection 1
 abbrev begun : SessionState
-begun = record { connection = 1; user = None; read_only = false; trees = []; next_tree = 1 }
+begun = record { connection = 1; user = None; read_only = false; signing = None; trees = []; next_tree = 1 }
 
 -- two of them
 abbrev two_begun : TableState
@@ -50,6 +51,13 @@ user_is a b e = let is : a ≡ b = cc in ap (λ (x : SessionState). is_some x.us
 read_only_is : (a b : SessionState) → Some a ≡ Some b → a.read_only ≡ b.read_only
 read_only_is a b e = let is : a ≡ b = cc in ap (λ (x : SessionState). x.read_only) is
 
+signing_is : (a b : SessionState) → Some a ≡ Some b → is_some a.signing ≡ is_some b.signing
+signing_is a b e = let is : a ≡ b = cc in ap (λ (x : SessionState). is_some x.signing) is
+
+-- how messages are signed by a key of zeros
+abbrev by_zeros : Signing
+by_zeros = record { key = record { bytes = replicate 16 0 }; required = true }
+
 not_both : true ≡ false → ⊥
 not_both e = cc
 
@@ -59,10 +67,11 @@ AnAnswerDecidesWhoIsInBy leaves =
     (table : TableState) (session previous : ℕ) →
     ((number : ℕ) (token : List ℕ) →
     session_at (leaves table session previous (continues token)) number ≡ session_at table number)
-    × ((user : List ℕ) (flags : ℕ) (read_only : Bool) (token : List ℕ) (state : SessionState) →
+    × ((user : List ℕ) (flags : ℕ) (read_only : Bool) (signing : Option Signing) (token : List ℕ)
+    (state : SessionState) →
     session_at table session ≡ Some state → state.user ≡ None →
-    session_at (leaves table session previous (accepts user flags read_only token)) session
-    ≡ Some (record state { user = Some user; read_only = read_only }))
+    session_at (leaves table session previous (accepts user flags read_only signing token)) session
+    ≡ Some (record state { user = Some user; read_only = read_only; signing = signing }))
     × (IsRising (map (λ e. e.0) table.sessions) → session_at (leaves table session previous denies) session ≡ None)
     × ((number : ℕ) (answer : Answered) (state : SessionState) → IsRising (map (λ e. e.0) table.sessions) →
     number == session ≡ false → session_at (leaves table session previous answer) number ≡ Some state →
@@ -84,8 +93,8 @@ who_goes_on_is_refused law = not_both (user_is (record begun { user = Some [] })
 
 -- wrong: each may write
 abbrev each_may_write : Answering
-each_may_write table session previous (accepts user flags read_only token) =
-    table_answered table session previous (accepts user flags false token)
+each_may_write table session previous (accepts user flags read_only signing token) =
+    table_answered table session previous (accepts user flags false signing token)
 each_may_write table session previous answer = table_answered table session previous answer
 
 each_may_write_is_refused : AnAnswerDecidesWhoIsInBy each_may_write → ⊥
@@ -94,7 +103,20 @@ each_may_write_is_refused law =
       user =
           Some [];
       read_only = true;
-    }) ((law two_begun 1 0).1 [] 0 true [] begun refl refl)))
+    }) ((law two_begun 1 0).1 [] 0 true None [] begun refl refl)))
+
+-- wrong: no session's messages are signed
+abbrev none_is_signed : Answering
+none_is_signed table session previous (accepts user flags read_only signing token) =
+    table_answered table session previous (accepts user flags read_only None token)
+none_is_signed table session previous answer = table_answered table session previous answer
+
+none_is_signed_is_refused : AnAnswerDecidesWhoIsInBy none_is_signed → ⊥
+none_is_signed_is_refused law =
+    not_both (sym (signing_is (record begun { user = Some [] }) (record begun {
+      user = Some [];
+      signing = Some by_zeros;
+    }) ((law two_begun 1 0).1 [] 0 false (Some by_zeros) [] begun refl refl)))
 
 -- wrong: whoever is denied may try again
 abbrev may_try_again : Answering
@@ -106,8 +128,8 @@ may_try_again_is_refused law = let none = (law two_begun 1 0).2 rising in cc
 
 -- wrong: with one, all are let in
 abbrev all_let_in : Answering
-all_let_in table session previous (accepts user flags read_only token) =
-    record table { sessions = map (λ e. (e.0, record e.1 { user = Some user; read_only = read_only })) table.sessions }
+all_let_in table session previous (accepts user flags read_only signing token) =
+    record table { sessions = map (λ e. (e.0, record e.1 { user = Some user; read_only = read_only; signing = signing })) table.sessions }
 all_let_in table session previous answer = table_answered table session previous answer
 
 all_let_in_is_refused : AnAnswerDecidesWhoIsInBy all_let_in → ⊥
@@ -115,7 +137,7 @@ all_let_in_is_refused law =
     not_both (sym (user_is begun (record begun {
       user =
           Some [];
-    }) ((law two_begun 1 0).3 2 (accepts [] 0 false []) (record begun { user = Some [] }) rising refl refl)))
+    }) ((law two_begun 1 0).3 2 (accepts [] 0 false None []) (record begun { user = Some [] }) rising refl refl)))
 
 module _ {S : Type 0} (accounts : S) where
   -- what a request leaves by these rules
@@ -164,7 +186,7 @@ module _ {S : Type 0} (accounts : S) where
 
   -- a session that may read alone
   abbrev reader : SessionState
-  reader = record { connection = 1; user = Some []; read_only = true; trees = 1 ∷ []; next_tree = 2 }
+  reader = record { connection = 1; user = Some []; read_only = true; signing = None; trees = 1 ∷ []; next_tree = 2 }
 
   abbrev reads : Sent S
   reads = sent ((1, reader) ∷ []) (read_request 1 1)
@@ -190,6 +212,42 @@ module _ {S : Type 0} (accounts : S) where
       } in
       no_reader_writes m (law reads 1 (record reader { read_only = false }) order refl refl)
 
+  -- wrong: once session 1 has read, its messages are signed by another key
+  abbrev readers_change_keys : Rules S
+  readers_change_keys = record right {
+    done = λ server ids asked step. elim asked [
+      | asks_read it ↦ record step {
+        server = record server {
+          sessions = record server.sessions {
+            table = session_changed (λ state. record state { signing = Some by_zeros }) server.sessions.table 1;
+          };
+        };
+      }
+      | _ ↦ step
+    ];
+  }
+
+  no_reader_changes_keys : (m : Meaning S) →
+      WasIn reads.server.sessions.table 1 (record reader { signing = Some by_zeros })
+      ⊎ IsLetIn m reads 1 (record reader { signing = Some by_zeros }) → ⊥
+  unfolding header_of known_command request_of spelling
+  no_reader_changes_keys m (inl was) =
+      let none = signing_is reader was.before was.at ∙ ap (λ (s : Option Signing). is_some s) was.signing in
+      not_both (sym none)
+  no_reader_changes_keys m (inr into) = let says = into.says in cc
+
+  readers_change_keys_is_refused : (m : Meaning S) →
+      NobodyGetsInUnaskedBy m (answered_by m readers_change_keys) → ⊥
+  unfolding header_of known_command request_of spelling file_read
+  readers_change_keys_is_refused m law =
+      let order : IsInOrder reads.server = record {
+        sessions = (tt, tt);
+        sessions_given = (omega arith, tt);
+        opens = (tt, tt);
+        opens_given = (omega arith, tt);
+      } in
+      no_reader_changes_keys m (law reads 1 (record reader { signing = Some by_zeros }) order refl refl)
+
   -- a SESSION_SETUP that succeeds lets its session in
   abbrev ASetUpThatSucceedsLetsInBy : Meaning S → (Sent S → Performed S) → Type 0
   ASetUpThatSucceedsLetsInBy m perform =
@@ -214,7 +272,7 @@ module _ {S : Type 0} (accounts : S) where
 
   -- an authenticator by which each is to go on
   abbrev never_done : Meaning S
-  never_done = record { hello = λ s. []; answer = λ s number token. continues []; next = λ s number token. s }
+  never_done = record { hello = λ s. []; requires_signing = λ s. false; answer = λ s number token. continues []; next = λ s number token. s }
 
   each_set_up_succeeds_is_refused : ASetUpThatSucceedsLetsInBy never_done
       (answered_by never_done each_set_up_succeeds) → ⊥
@@ -257,7 +315,7 @@ module _ {S : Type 0} (accounts : S) where
 
   -- an authenticator by which each is denied
   abbrev all_denied : Meaning S
-  all_denied = record { hello = λ s. []; answer = λ s number token. denies; next = λ s number token. s }
+  all_denied = record { hello = λ s. []; requires_signing = λ s. false; answer = λ s number token. denies; next = λ s number token. s }
 
   each_set_up_closes_is_refused : WhoIsNotInClosesNothingBy (answered_by all_denied each_set_up_closes) → ⊥
   unfolding header_of known_command request_of spelling session_set_up

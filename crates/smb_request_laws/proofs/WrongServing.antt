@@ -2,7 +2,7 @@
 -- A law whose name ends in By says of any definition what that of specs/ says of the right one, as the line below it
 -- shows; then come the wrong definition, and the proof that the law is false of it. `right_rules` shows that by the
 -- right rules a request leaves what it does leave.
-use Rattle.std.proofs.Common.{◌≡◌, ℕ, Bool, true, false, List, [], ◌∷◌, None, Some, refl, arith}
+use Rattle.std.proofs.Common.{◌≡◌, ℕ, Bool, true, false, List, [], ◌∷◌, Option, None, Some, refl, arith}
 use Rattle.smb_wire.specs.Commands.{known_command}
 use Rattle.smb_wire.specs.Limits.{most_at_once}
 use Rattle.smb_wire.specs.Number.{spelling}
@@ -18,6 +18,7 @@ use Rattle.smb_body.specs.declared.reserved.ReservedRequest.{ReservedRequest}
 use Rattle.smb_session.specs.Authenticator.{Meaning, accepts}
 use Rattle.smb_session.specs.Laws.{setup_number}
 use Rattle.smb_session.specs.Setup.{setup_refusal}
+use Rattle.smb_session.specs.declared.signing.Signing.{Signing}
 use Rattle.smb_opens.specs.Bytes.{read_status, write_status}
 use Rattle.smb_request.specs.Context.{first_context}
 use Rattle.smb_request.specs.Laws.{request_ids}
@@ -63,19 +64,20 @@ module _ {S : Type 0} (accounts : S) where
   echo_needs_none : (m : Meaning S) → AnEchoIsAnsweredBy (answered_by m echo_needs_a_session) → ⊥
   unfolding header_of known_command request_of spelling
   echo_needs_none m law =
-      let told = law (sent echo_request) nothing_asked (record { says = refl; charged = omega arith }) in
+      let told = law (sent echo_request) nothing_asked (record { says = refl; charged = omega arith; passes = refl }) in
       cc
 
   -- a SESSION_SETUP whose token the authenticator accepts is answered by SUCCESS
   abbrev WhoIsAcceptedIsAnsweredBy : Meaning S → (Sent S → Performed S) → Type 0
   WhoIsAcceptedIsAnsweredBy m perform =
-      (it : Sent S) (asked : SessionSetupAsked) (user : List ℕ) (flags : ℕ) (read_only : Bool) (token : List ℕ) →
+      (it : Sent S) (asked : SessionSetupAsked) (user : List ℕ) (flags : ℕ) (read_only : Bool)
+      (signing : Option Signing) (token : List ℕ) →
       Asks it (asks_session_setup asked) →
       setup_refusal it.server.sessions.table it.connection
       (request_ids it.context it.request).session_id asked.flags.0 ≡ None →
       m.answer it.server.sessions.authenticator (setup_number it.server.sessions.table
       (request_ids it.context it.request).session_id) asked.security_buffer
-      ≡ accepts user flags read_only token →
+      ≡ accepts user flags read_only signing token →
       response_status (perform it) ≡ Some Success
 
   who_is_accepted_is_told_so : (m : Meaning S) → WhoIsAcceptedIsAnswered m ≡ WhoIsAcceptedIsAnsweredBy m (answered m)
@@ -94,7 +96,8 @@ module _ {S : Type 0} (accounts : S) where
   abbrev each_accepted : Meaning S
   each_accepted = record {
     hello = λ s. [];
-    answer = λ s number token. accepts [] 0 false [];
+    requires_signing = λ s. false;
+    answer = λ s number token. accepts [] 0 false None [];
     next =
         λ s number token. s;
   }
@@ -102,10 +105,11 @@ module _ {S : Type 0} (accounts : S) where
   none_told_so_is_refused : WhoIsAcceptedIsAnsweredBy each_accepted (answered_by each_accepted none_told_so) → ⊥
   unfolding header_of known_command request_of spelling session_set_up
   none_told_so_is_refused law =
-      let told = law (sent (setup_request 0)) setup_asked [] 0 false [] (record {
+      let told = law (sent (setup_request 0)) setup_asked [] 0 false None [] (record {
         says = refl;
         charged =
             omega arith;
+        passes = refl;
       }) refl refl in
       cc
 
@@ -144,6 +148,7 @@ module _ {S : Type 0} (accounts : S) where
         says = refl;
         charged =
             omega arith;
+        passes = refl;
       }) own refl in
       cc
 
@@ -164,5 +169,5 @@ module _ {S : Type 0} (accounts : S) where
         halves = refl;
         held = refl;
       } in
-      let told = (law (sent (write_request 1 1))).1 write_asked (record { says = refl; charged = omega arith }) own refl in
+      let told = (law (sent (write_request 1 1))).1 write_asked (record { says = refl; charged = omega arith; passes = refl }) own refl in
       cc

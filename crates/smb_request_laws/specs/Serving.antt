@@ -15,13 +15,15 @@ use Rattle.smb_body.specs.declared.reserved.ReservedRequest.{ReservedRequest}
 use Rattle.smb_session.specs.Authenticator.{Meaning, accepts}
 use Rattle.smb_session.specs.Laws.{setup_number}
 use Rattle.smb_session.specs.Setup.{setup_refusal}
-use Rattle.smb_session.specs.Table.{knows_session, knows_tree}
+use Rattle.smb_session.specs.Table.{knows_session, knows_tree, signing_of}
+use Rattle.smb_session.specs.declared.signing.Signing.{Signing}
 use Rattle.smb_access.specs.declared.open_row.Owner.TheVariants.{Tree}
 use Rattle.smb_access.specs.Opens.{open_of, is_held_by}
 use Rattle.smb_opens.specs.Bytes.{read_status, write_status}
 use Rattle.smb_request.specs.Call.{body_of}
 use Rattle.smb_request.specs.Charge.{charge_of}
 use Rattle.smb_request.specs.Laws.{request_ids}
+use Rattle.smb_request.specs.Request.{signature_refusal}
 use Rattle.smb_request.specs.Response.{Performed}
 use Rattle.smb_request_laws.specs.Acting.{command_in}
 use Rattle.smb_request_laws.specs.Doing.{Sent, answered}
@@ -30,11 +32,17 @@ use Rattle.smb_request_laws.specs.Doing.{Sent, answered}
 abbrev pub response_status : {S : Type 0} → Performed S → Option NtStatus
 response_status ran = option_map (λ response. response.status) ran.response
 
--- a request asks this, and takes as many MessageIds as it has to (3.3.5.2.5)
+-- a request asks this, takes as many MessageIds as it has to (3.3.5.2.5), and its signature does not refuse it
+-- (3.3.5.2.4)
 pub record Asks {S : Type 0} (it : Sent S) (asked : RequestValue) : Type 0 where
   pub says : body_of (command_in it.request) it.request ≡ Some asked
   pub charged :
       (payload_of asked - 1) / 65536 + 1 ≤ charge_of it.dialect (header_of it.request).credit_charge
+  pub passes :
+      signature_refusal
+      (signing_of it.server.sessions.table it.connection (request_ids it.context it.request).session_id)
+      it.request
+      ≡ None
 
 -- it is of an open of its own: it is not related to another request, and the open is one of its tree connect, which is
 -- one of its session, which is a finished one of its connection
@@ -66,7 +74,8 @@ module _ {S : Type 0} (authenticator : Meaning S) where
   -- a SESSION_SETUP whose token the authenticator accepts is answered by SUCCESS (3.3.5.5.3)
   abbrev pub WhoIsAcceptedIsAnswered : Type 0
   WhoIsAcceptedIsAnswered =
-      (it : Sent S) (asked : SessionSetupAsked) (user : List ℕ) (flags : ℕ) (read_only : Bool) (token : List ℕ) →
+      (it : Sent S) (asked : SessionSetupAsked) (user : List ℕ) (flags : ℕ) (read_only : Bool)
+      (signing : Option Signing) (token : List ℕ) →
       Asks it (asks_session_setup asked) →
       setup_refusal
       it.server.sessions.table
@@ -78,7 +87,7 @@ module _ {S : Type 0} (authenticator : Meaning S) where
       it.server.sessions.authenticator
       (setup_number it.server.sessions.table (request_ids it.context it.request).session_id)
       asked.security_buffer
-      ≡ accepts user flags read_only token →
+      ≡ accepts user flags read_only signing token →
       response_status (answered authenticator it) ≡ Some Success
 
   -- a READ and a WRITE through an open of its own succeed, where the store refuses them for no reason (3.3.5.12,

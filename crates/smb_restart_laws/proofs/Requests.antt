@@ -30,7 +30,7 @@ use Rattle.smb_session.specs.Numbers.{contains}
 use Rattle.smb_session.specs.Session.{SessionState}
 use Rattle.smb_session.specs.Parts.{fresh_session, finished_by, with_tree, without_tree, begun, logoff_refusal, has_all_sessions}
 use Rattle.smb_session.specs.Sessions.{setup_step, tree_connect_refusal}
-use Rattle.smb_session.specs.Setup.{setup_refusal, previous_ended, table_answered}
+use Rattle.smb_session.specs.Setup.{setup_refusal, previous_ended, signing_asked, table_answered}
 use Rattle.smb_session.specs.Laws.{setup_table, setup_number}
 use Rattle.smb_refusals.specs.declared.session.SetupRefusal.TheVariants.{BindingAsked, NoSessionLeft}
 use Rattle.smb_session.specs.Table.{TableState, knows_session, knows_tree, read_only_of, session_ended, session_changed, tree_disconnect_refusal}
@@ -66,14 +66,14 @@ use Rattle.smb_request.specs.Bytes.{file_read, file_written}
 use Rattle.smb_request.specs.Call.{body_of, call_of}
 use Rattle.smb_request.specs.Context.{named_on, open_for_next_related}
 use Rattle.smb_request.specs.Files.{file_created, file_closed}
-use Rattle.smb_request.specs.Parts.{file_asked, close_response, asks_unlock, is_unsupported, is_cancel_command, only_reads, check_session_tree_and_open, dialect_after, closed_for, setup_answered, lock_asks, hello_of, performed_by, success, set_status, set_through, with_store, file_locked, file_unlocked, negotiated}
+use Rattle.smb_request.specs.Parts.{file_asked, close_response, asks_unlock, is_unsupported, is_cancel_command, only_reads, check_session_tree_and_open, dialect_after, closed_for, setup_answered, lock_asks, hello_of, requires_of, performed_by, success, set_status, set_through, with_store, file_locked, file_unlocked, negotiated}
 use Rattle.smb_request.specs.Held.{IsCallOf, opens_left}
 use Rattle.smb_request.specs.Laws.{NumbersInOrder}
 use Rattle.smb_request.specs.Negotiate.{negotiate_answer}
 use Rattle.smb_request.specs.Owners.{AreOwned}
-use Rattle.smb_request.specs.Request.{check_request, acted, performed}
+use Rattle.smb_request.specs.Request.{check_request, acted, verified, performed}
 use Rattle.smb_request.specs.Response.{CommandStep, Performed, refused, through_open, unless_refused}
-use Rattle.smb_request.specs.Session.{may_only_read, session_set_up, session_logged_off, tree_joined, tree_left}
+use Rattle.smb_request.specs.Session.{asks_to_sign, may_only_read, session_set_up, session_logged_off, tree_joined, tree_left}
 use Rattle.smb_request.specs.State.{ServerState}
 use Rattle.smb_request.proofs.Apart.{acts_known, id_held}
 use Rattle.smb_request.proofs.Configured.{room_of, created_kept, closed_kept, all_kept, ended_kept, locks_kept, locks_opens, written_kept}
@@ -83,6 +83,7 @@ use Rattle.smb_request.proofs.Listings.{owned_scanned, listed_left}
 use Rattle.smb_request.proofs.Numbers.{others_left}
 use Rattle.smb_request.proofs.Owners.{owned_ended, owned_tree, owned_untree, owned_setup, owned_some, owned_new, owned_push, reader_only}
 use Rattle.smb_request.proofs.Performed.{call_read}
+use Rattle.smb_request.proofs.Verified.{by_signature}
 
 -- each session's connection is known, and the numbers are not spent
 pub record IsTableHeld (table : TableState) : Type 0 where
@@ -125,8 +126,8 @@ ended_or_not table (Some n) h = table_ended table n h
 
 table_answered_held : (table : TableState) (n previous : ℕ) (answer : Answered) → IsTableHeld table → IsTableHeld (table_answered table n previous answer)
 table_answered_held table n previous (continues token) h = h
-table_answered_held table n previous (accepts user flags read_only token) h =
-    table_changed (finished_by user read_only) (λ s. refl) (option_map_or (session_ended table) (previous_ended table user previous) table) n (ended_or_not table (previous_ended table user previous) h)
+table_answered_held table n previous (accepts user flags read_only signing token) h =
+    table_changed (finished_by user read_only signing) (λ s. refl) (option_map_or (session_ended table) (previous_ended table user previous) table) n (ended_or_not table (previous_ended table user previous) h)
 table_answered_held table n previous denies h = table_ended table n h
 
 -- a session begins on a connection that is known
@@ -156,9 +157,9 @@ table_set_up table c n flags e h = at (n == 0) refl
 -- the connections that are known stay so
 answered_connections : (table : TableState) (n previous : ℕ) (answer : Answered) → (table_answered table n previous answer).connections ≡ table.connections
 answered_connections table n previous (continues token) = refl
-answered_connections table n previous (accepts user flags read_only token) = by_previous (previous_ended table user previous)
+answered_connections table n previous (accepts user flags read_only signing token) = by_previous (previous_ended table user previous)
   where
-    by_previous : (o : Option ℕ) → (session_changed (finished_by user read_only) (option_map_or (session_ended table) o table) n).connections ≡ table.connections
+    by_previous : (o : Option ℕ) → (session_changed (finished_by user read_only signing) (option_map_or (session_ended table) o table) n).connections ≡ table.connections
     by_previous None = refl
     by_previous (Some m) = refl
 answered_connections table n previous denies = refl
@@ -212,12 +213,12 @@ module _ {S : Type 0} (call : _) (body : Option RequestValue) (read : IsCallOf c
 
   -- SESSION_SETUP
   set_up_at : (m : Meaning S) (asked : SessionSetupAsked) (refusal : Option Refusal) → option_map (λ refusal. Refusal.SessionSetup refusal) (setup_refusal table c s asked.flags.0) ≡ refusal →
-      Left (unless_refused server call.ids refusal (setup_answered server call.ids (setup_step m server.sessions c s asked.previous_session_id asked.security_buffer))).server
+      Left (unless_refused server call.ids refusal (setup_answered server call.ids (setup_step m server.sessions c s asked.previous_session_id (asks_to_sign asked) asked.security_buffer))).server
   set_up_at m asked (Some row) e = same
   set_up_at m asked None e =
-      let step = setup_step m server.sessions c s asked.previous_session_id asked.security_buffer in
+      let step = setup_step m server.sessions c s asked.previous_session_id (asks_to_sign asked) asked.security_buffer in
       let unrefused : setup_refusal table c s asked.flags.0 ≡ None = none_named (λ refusal. Refusal.SessionSetup refusal) (setup_refusal table c s asked.flags.0) e in
-      let answer : Answered = m.answer server.sessions.authenticator (setup_number table s) asked.security_buffer in
+      let answer : Answered = signing_asked (asks_to_sign asked) (m.answer server.sessions.authenticator (setup_number table s) asked.security_buffer) in
       record {
         settings = refl;
         share = refl;
@@ -225,7 +226,7 @@ module _ {S : Type 0} (call : _) (body : Option RequestValue) (read : IsCallOf c
         connections = answered_connections (setup_table table c s) (setup_number table s) asked.previous_session_id answer ∙ set_up_connections table c s;
         held = record {
           table = table_answered_held (setup_table table c s) (setup_number table s) asked.previous_session_id answer (table_set_up table c s asked.flags.0 unrefused h.table);
-          owned = rw (opens_for table server.store step.told.ended o) (owned_setup m server.sessions c s asked.previous_session_id asked.flags.0 asked.security_buffer server.store.opens o.sessions_given unrefused h.owned);
+          owned = rw (opens_for table server.store step.told.ended o) (owned_setup m server.sessions c s asked.previous_session_id asked.flags.0 (asks_to_sign asked) asked.security_buffer server.store.opens o.sessions_given unrefused h.owned);
         };
       }
 
@@ -349,7 +350,7 @@ module _ {S : Type 0} (call : _) (body : Option RequestValue) (read : IsCallOf c
 
   -- NEGOTIATE
   negotiated_at : (m : Meaning S) (best : Option Dialect) →
-      Left (option_map_or (λ best. let x : CommandStep S = record { server = server; response = success call.ids (negotiate_answer server.settings.guid (hello_of m server) call.moment (Some best) (revision_of best)) } in x) best (refused server call.ids (Refusal.Negotiate NoDialect))).server
+      Left (option_map_or (λ best. let x : CommandStep S = record { server = server; response = success call.ids (negotiate_answer (requires_of m server) server.settings.guid (hello_of m server) call.moment (Some best) (revision_of best)) } in x) best (refused server call.ids (Refusal.Negotiate NoDialect))).server
   negotiated_at m None = same
   negotiated_at m (Some best) = same
 
@@ -394,23 +395,29 @@ module _ {S : Type 0} (call : _) (body : Option RequestValue) (read : IsCallOf c
   performed_keeps : (m : Meaning S) → Left (performed_by m server call body).server
   performed_keeps m = body_keeps m (option_map_or is_unsupported call.command false) (is_none call.command) body read
 
-pub request_keeps : {S : Type 0} (m : Meaning S) (c moment : ℕ) (server : ServerState S) (dialect : Option Dialect) (context : Context) (request : List ℕ) → NumbersInOrder server.sessions.table server.store →
-    IsServerHeld server → Keeps server (performed m c moment server dialect context request).server
-unfolding performed
-request_keeps {S} m c moment server dialect context request o h =
-    let call = call_of c moment dialect context request in
-    let left = performed_keeps call (body_of call.command request) (call_read c moment dialect context request) server o h m in
-    elim (is_cancel_command call.command) as (λ b. Keeps server (let x : Performed S = if b then record {
-      server = server;
-      dialect = dialect;
-      context = record { ids = call.ids; last_open = named_on call.inherited call.file_id };
-      response = None;
-    } else record {
-      server = (performed_by m server call (body_of call.command request)).server;
-      dialect = option_map_or (dialect_after dialect) (body_of call.command request) dialect;
-      context = record {
-        ids = (performed_by m server call (body_of call.command request)).response.ids;
-        last_open = open_for_next_related call.inherited server.store.next call.command call.file_id (performed_by m server call (body_of call.command request)).response.status;
-      };
-      response = Some (performed_by m server call (body_of call.command request)).response;
-    } in x).server) [ true ↦ record { settings = refl; share = refl; room = refl; connections = refl; held = h } | false ↦ left ]
+module _ {S : Type 0} (m : Meaning S) (c moment : ℕ) (server : ServerState S) (dialect : Option Dialect) (context : Context) (request : List ℕ) (o : NumbersInOrder server.sessions.table server.store) (h : IsServerHeld server) where
+  same_kept : Keeps server server
+  same_kept = record { settings = refl; share = refl; room = refl; connections = refl; held = h }
+
+  verified_keeps : Keeps server (verified m c moment server dialect context request).server
+  unfolding verified
+  verified_keeps =
+      let call = call_of c moment dialect context request in
+      let left = performed_keeps call (body_of call.command request) (call_read c moment dialect context request) server o h m in
+      elim (is_cancel_command call.command) as (λ b. Keeps server (let x : Performed S = if b then record {
+        server = server;
+        dialect = dialect;
+        context = record { ids = call.ids; last_open = named_on call.inherited call.file_id };
+        response = None;
+      } else record {
+        server = (performed_by m server call (body_of call.command request)).server;
+        dialect = option_map_or (dialect_after dialect) (body_of call.command request) dialect;
+        context = record {
+          ids = (performed_by m server call (body_of call.command request)).response.ids;
+          last_open = open_for_next_related call.inherited server.store.next call.command call.file_id (performed_by m server call (body_of call.command request)).response.status;
+        };
+        response = Some (performed_by m server call (body_of call.command request)).response;
+      } in x).server) [ true ↦ same_kept | false ↦ left ]
+
+  pub request_keeps : Keeps server (performed m c moment server dialect context request).server
+  request_keeps = by_signature m c moment server dialect context request (λ done. Keeps server done.server) (λ refusal. same_kept) verified_keeps

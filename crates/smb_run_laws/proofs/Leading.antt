@@ -41,13 +41,13 @@ leads_then m one two three [] second e f = subst (λ (store : StoreState). Lead 
 leads_then m one two three (action ∷ first) second e f = (e.0, e.1, leads_then m (after action).store two three first second e.2 f)
 
 -- a reply changes nothing of the context
-context_replied : {S : Type 0} (now : ChainState S) (request : List ℕ) (p : Performed S) → (replied now request p).context ≡ p.context
-context_replied now request p = elim (p.response) as (λ r. (replied now request (record p { response = r })).context ≡ p.context) [ None ↦ refl | Some response ↦ refl ]
+context_replied : {S : Type 0} (connection : ℕ) (now : ChainState S) (request : List ℕ) (p : Performed S) → (replied connection now request p).context ≡ p.context
+context_replied connection now request p = elim (p.response) as (λ r. (replied connection now request (record p { response = r })).context ≡ p.context) [ None ↦ refl | Some response ↦ refl ]
 
 context-one : {S : Type 0} (m : Meaning S) (arrival : Arrival) (now : ChainState S) (request : List ℕ) →
     (one_performed m arrival now request).context ≡ (performed m arrival.connection_id arrival.moment now.server now.connection.dialect now.context request).context
 unfolding one_performed
-context-one m arrival now request = context_replied now request (performed m arrival.connection_id arrival.moment now.server now.connection.dialect now.context request)
+context-one m arrival now request = context_replied arrival.connection_id now request (performed m arrival.connection_id arrival.moment now.server now.connection.dialect now.context request)
 
 module _ {S : Type 0} (m : Meaning S) (n : ℕ) (moment : ℕ) where
   abbrev actions : List (PerformedRequest S) → List (Action S)

@@ -28,7 +28,7 @@ use Rattle.smb_session.specs.Authenticator.{Meaning, Answered, continues, accept
 use Rattle.smb_session.specs.Negotiate.{best_of}
 use Rattle.smb_session.specs.Parts.{logoff_refusal}
 use Rattle.smb_session.specs.Sessions.{setup_step, tree_connect_refusal}
-use Rattle.smb_session.specs.Setup.{SetupResult, setup_refusal, setup_result}
+use Rattle.smb_session.specs.Setup.{SetupResult, setup_refusal, setup_result, signing_asked}
 use Rattle.smb_session.specs.declared.setup.SetupStatus.{SetupStatus}
 use Rattle.smb_session.specs.declared.setup.SetupStatus.TheVariants.{Success as SetUp}
 use Rattle.smb_request.specs.declared.context.HeaderIds.{HeaderIds}
@@ -59,13 +59,14 @@ use Rattle.smb_request.specs.Bytes.{file_read, file_written}
 use Rattle.smb_request.specs.Call.{body_of, call_of}
 use Rattle.smb_request.specs.Held.{IsCallOf}
 use Rattle.smb_request.proofs.Performed.{call_read}
+use Rattle.smb_request.proofs.Verified.{by_signature}
 use Rattle.smb_request.specs.Context.{named_on, open_for_next_related}
 use Rattle.smb_request.specs.Files.{file_created, file_closed}
 use Rattle.smb_request.specs.Negotiate.{negotiate_answer}
-use Rattle.smb_request.specs.Parts.{file_asked, close_response, asks_unlock, is_unsupported, is_cancel_command, dialect_after, closed_for, setup_answered, setup_response, lock_asks, hello_of, performed_by, success, set_refusal, set_status, set_through, set_as_asked, class_set, set_type_refusal, with_store, file_locked, file_unlocked, negotiated}
-use Rattle.smb_request.specs.Request.{check_request, acted, performed}
+use Rattle.smb_request.specs.Parts.{file_asked, close_response, asks_unlock, is_unsupported, is_cancel_command, dialect_after, closed_for, setup_answered, setup_response, lock_asks, hello_of, requires_of, performed_by, success, set_refusal, set_status, set_through, set_as_asked, class_set, set_type_refusal, with_store, file_locked, file_unlocked, negotiated}
+use Rattle.smb_request.specs.Request.{check_request, acted, verified, performed}
 use Rattle.smb_request.specs.Response.{ResponseState, CommandStep, Performed, refused, through_open, unless_refused}
-use Rattle.smb_request.specs.Session.{may_only_read, session_set_up, session_logged_off, tree_joined, tree_left}
+use Rattle.smb_request.specs.Session.{asks_to_sign, may_only_read, session_set_up, session_logged_off, tree_joined, tree_left}
 use Rattle.smb_request.specs.SetInfo.{information_set}
 use Rattle.smb_request.specs.State.{ServerState}
 use Rattle.smb_request.proofs.InfoApart.{queried_left}
@@ -139,7 +140,7 @@ set_stepped store number moment (asks_end size) = refl
 ended_is : (table : TableState) (number previous : ℕ) (answer : Answered) →
     let told : SetupResult = setup_result table number previous answer in (told.ended ≡ None) ⊎ ((told.ended ≡ Some previous) × (told.status ≡ SetUp))
 ended_is table number previous (continues token) = inl refl
-ended_is table number previous (accepts user flags read_only token) = by_test _
+ended_is table number previous (accepts user flags read_only signing token) = by_test _
   where
     by_test : (b : Bool) → ((let x : Option ℕ = if b then Some previous else None in x) ≡ None) ⊎ (((let x : Option ℕ = if b then Some previous else None in x) ≡ Some previous) × (SetUp ≡ SetUp))
     by_test true = inr (refl, refl)
@@ -185,11 +186,11 @@ module _ {S : Type 0} (call : _) (body : Option RequestValue) (reading : IsCallO
       let sessions = server.sessions in
       let table : TableState = setup_table sessions.table call.connection call.ids.session_id in
       let number = setup_number sessions.table call.ids.session_id in
-      let answer : Answered = m.answer sessions.authenticator number serves.security_buffer in
+      let answer : Answered = signing_asked (asks_to_sign serves) (m.answer sessions.authenticator number serves.security_buffer) in
       let told : SetupResult = setup_result table number serves.previous_session_id answer in
       let ids : HeaderIds = record call.ids { session_id = told.session } in
       by_row (asks_session_setup serves)
-      (setup_answered server call.ids (setup_step m sessions call.connection call.ids.session_id serves.previous_session_id serves.security_buffer))
+      (setup_answered server call.ids (setup_step m sessions call.connection call.ids.session_id serves.previous_session_id (asks_to_sign serves) serves.security_buffer))
       (option_map (λ refusal. Refusal.SessionSetup refusal) (setup_refusal sessions.table call.connection call.ids.session_id serves.flags.0))
       (λ e. closed_at serves (setup_response ids told told.status).status told.ended (answered_so ids told serves.previous_session_id (ended_is table number serves.previous_session_id answer)))
 
@@ -294,7 +295,7 @@ module _ {S : Type 0} (call : _) (body : Option RequestValue) (reading : IsCallO
 
   -- NEGOTIATE
   negotiated_at : (serves : _) (m : Meaning S) (best : Option Dialect) →
-      Left (asks_negotiate serves) (option_map_or (λ best. let x : CommandStep S = record { server = server; response = success call.ids (negotiate_answer server.settings.guid (hello_of m server) call.moment (Some best) (revision_of best)) } in x) best (refused server call.ids (Refusal.Negotiate NoDialect)))
+      Left (asks_negotiate serves) (option_map_or (λ best. let x : CommandStep S = record { server = server; response = success call.ids (negotiate_answer (requires_of m server) server.settings.guid (hello_of m server) call.moment (Some best) (revision_of best)) } in x) best (refused server call.ids (Refusal.Negotiate NoDialect)))
   negotiated_at serves m None = inl refl
   negotiated_at serves m (Some best) = inl refl
 
@@ -339,24 +340,31 @@ module _ {S : Type 0} (call : _) (body : Option RequestValue) (reading : IsCallO
 abbrev Answered_so : Option ResponseState → Type 0
 Answered_so response = MatchOption response ⊥ (λ response. response.status ≡ Success)
 
-pub request_left : {S : Type 0} (m : Meaning S) (c moment : ℕ) (server : ServerState S) (dialect : Option Dialect) (context : Context) (request : List ℕ) →
-    (let p : Performed S = performed m c moment server dialect context request in
-    IsLeftBy (λ step. let call = call_of c moment None context request in MatchOption (body_of call.command request) ⊥ (λ serves. IsAskedFor call.ids call.open_number call.moment serves step)) (Answered_so p.response) server.store p.server.store)
-unfolding performed
-request_left {S} m c moment server dialect context request =
-    let call = call_of c moment dialect context request in
-    let left = body_left call (body_of call.command request) (call_read c moment dialect context request) server m (option_map_or is_unsupported call.command false) (is_none call.command) (body_of call.command request) in
-    elim (is_cancel_command call.command) as (λ b. let p : Performed S = if b then record {
-      server = server;
-      dialect = dialect;
-      context = record { ids = call.ids; last_open = named_on call.inherited call.file_id };
-      response = None;
-    } else record {
-      server = (performed_by m server call (body_of call.command request)).server;
-      dialect = option_map_or (dialect_after dialect) (body_of call.command request) dialect;
-      context = record {
-        ids = (performed_by m server call (body_of call.command request)).response.ids;
-        last_open = open_for_next_related call.inherited server.store.next call.command call.file_id (performed_by m server call (body_of call.command request)).response.status;
-      };
-      response = Some (performed_by m server call (body_of call.command request)).response;
-    } in IsLeftBy (λ step. MatchOption (body_of call.command request) ⊥ (λ serves. IsAskedFor call.ids call.open_number call.moment serves step)) (Answered_so p.response) server.store p.server.store) [ true ↦ inl refl | false ↦ left ]
+module _ {S : Type 0} (m : Meaning S) (c moment : ℕ) (server : ServerState S) (dialect : Option Dialect) (context : Context) (request : List ℕ) where
+  -- what a request leaves of the store
+  abbrev Leaves : Performed S → Type 0
+  Leaves p =
+      IsLeftBy (λ step. let call = call_of c moment None context request in MatchOption (body_of call.command request) ⊥ (λ serves. IsAskedFor call.ids call.open_number call.moment serves step)) (Answered_so p.response) server.store p.server.store
+
+  verified_left : Leaves (verified m c moment server dialect context request)
+  unfolding verified
+  verified_left =
+      let call = call_of c moment dialect context request in
+      let left = body_left call (body_of call.command request) (call_read c moment dialect context request) server m (option_map_or is_unsupported call.command false) (is_none call.command) (body_of call.command request) in
+      elim (is_cancel_command call.command) as (λ b. Leaves (let p : Performed S = if b then record {
+        server = server;
+        dialect = dialect;
+        context = record { ids = call.ids; last_open = named_on call.inherited call.file_id };
+        response = None;
+      } else record {
+        server = (performed_by m server call (body_of call.command request)).server;
+        dialect = option_map_or (dialect_after dialect) (body_of call.command request) dialect;
+        context = record {
+          ids = (performed_by m server call (body_of call.command request)).response.ids;
+          last_open = open_for_next_related call.inherited server.store.next call.command call.file_id (performed_by m server call (body_of call.command request)).response.status;
+        };
+        response = Some (performed_by m server call (body_of call.command request)).response;
+      } in p)) [ true ↦ inl refl | false ↦ left ]
+
+  pub request_left : Leaves (performed m c moment server dialect context request)
+  request_left = by_signature m c moment server dialect context request Leaves (λ refusal. inl refl) verified_left

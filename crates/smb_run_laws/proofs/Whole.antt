@@ -141,7 +141,7 @@ module _ {S : Type 0} (m : Meaning S) (arrival : Arrival) where
   each_is chain (request ∷ requests) = ap (λ (rs : List (Option (List ℕ))). Some request ∷ rs) (each_is (one_performed m arrival chain request) requests)
 
   -- what is used stays used
-  replied_at : (chain : ChainState S) (request : List ℕ) (p : Performed S) (o : Option ResponseState) (id : ℕ) → p.response ≡ o → IsUsed chain.connection.window id → IsUsed (replied chain request p).connection.window id
+  replied_at : (chain : ChainState S) (request : List ℕ) (p : Performed S) (o : Option ResponseState) (id : ℕ) → p.response ≡ o → IsUsed chain.connection.window id → IsUsed (replied arrival.connection_id chain request p).connection.window id
   replied_at chain request p None id e used = rw e used
   replied_at chain request p (Some response) id e used = rw e ((used_stays chain.connection.window id used).1 (credits_granted chain.connection.window (header_of request).credits))
 

@@ -1,7 +1,7 @@
 -- Wrong definitions of chains, which the laws refuse: with each the law is false.
 -- A law whose name ends in By says of any step what that of specs/ says of the right one, as the line below it shows;
 -- then come the wrong steps, and the proofs that the law is false of them.
-use Rattle.std.proofs.Common.{◌≡◌, ℕ, ◌+◌, ◌%◌, ◌==◌, not, true, false, List, [], ◌∷◌, ◌++◌, length, map, filter, take, drop, replicate, None, Some, refl, sym, ap, arith, ◌∙◌}
+use Rattle.std.proofs.Common.{◌≡◌, ◌<◌, ℕ, ◌+◌, ◌%◌, ◌==◌, nat_le, not, Bool, true, false, if◌then◌else◌, List, [], ◌∷◌, ◌++◌, length, map, filter, take, drop, replicate, Option, None, Some, is_some, refl, sym, ap, arith, ◌∙◌}
 use Rattle.std.specs.Option.{option_map_or}
 use Rattle.smb_wire.specs.Commands.{code_of, known_command}
 use Rattle.smb_wire.specs.Fields.{joined}
@@ -11,7 +11,9 @@ use Rattle.smb_wire.specs.declared.nt_status.NtStatus.TheVariants.{Success}
 use Rattle.smb_wire.specs.declared.dialect.Dialect.TheVariants.{Smb202}
 use Rattle.smb_head.specs.Chains.{chain_of, requests_in}
 use Rattle.smb_head.specs.Headers.{fields, header_of}
-use Rattle.smb_head.specs.Replies.{Reply, joined_replies}
+use Rattle.smb_signing.specs.declared.key.Key.{Key}
+use Rattle.smb_signing.specs.Signature.{signature}
+use Rattle.smb_head.specs.Replies.{Reply, reply_bytes, followed_reply, joined_replies}
 use Rattle.smb_body.specs.Replies.{reply_spelling, answers_echo}
 use Rattle.smb_body.specs.Requests.{request_of}
 use Rattle.smb_body.specs.Reserved.{reserved_fields}
@@ -19,7 +21,7 @@ use Rattle.smb_session.specs.Authenticator.{Meaning}
 use Rattle.smb_session.specs.Laws.{IsUsed}
 use Rattle.smb_session.specs.Numbers.{contains}
 use Rattle.smb_session.specs.Window.{GoodWindow, are_distinct, upward, without_ids}
-use Rattle.smb_request.specs.Request.{performed}
+use Rattle.smb_request.specs.Request.{verified, performed}
 use Rattle.smb_request.specs.Response.{ResponseState}
 use Rattle.smb_request.specs.State.{ServerState}
 use Rattle.smb_request_laws.proofs.Example.{header, nothing_asked, server, byte_is}
@@ -66,16 +68,36 @@ abbrev byte_at : ℕ → List Output → List ℕ
 byte_at place [] = []
 byte_at place (output ∷ outputs) = take 1 (drop (place + 4) (output_bytes output))
 
--- of the first reply that a frame tells, its credits and its flags
-credits_at : (n : ℕ) (reply : Reply) (others : List Reply) → byte_at 14 (reply_frame n (joined_replies (reply ∷ others))) ≡ (reply.header.credits % 256) ∷ []
-unfolding joined_replies spelling
-credits_at n reply [] = refl
-credits_at n reply (next ∷ others) = refl
+-- a message, signed or too short for a signature
+abbrev signed_or_short : Bool → Key → List ℕ → List ℕ
+signed_or_short is_whole key message = if is_whole then take 48 message ++ signature key.bytes message ++ drop 64 message else message
 
-flags_at : (n : ℕ) (reply : Reply) (others : List Reply) → byte_at 16 (reply_frame n (joined_replies (reply ∷ others))) ≡ (reply.header.flags.0 % 256) ∷ []
-unfolding joined_replies spelling
-flags_at n reply [] = refl
-flags_at n reply (next ∷ others) = refl
+-- of the first reply that a frame tells, its credits and its flags: they stand before its signature
+module _ (n : ℕ) (reply : Reply) where
+  abbrev Tells : List ℕ → Type 0
+  Tells bytes =
+      (byte_at 14 (reply_frame n bytes) ≡ (reply.header.credits % 256) ∷ [])
+      × (byte_at 16 (reply_frame n bytes) ≡ (reply.header.flags.0 % 256) ∷ [])
+
+  last_tells : (key : Key) (is_whole : Bool) → Tells (signed_or_short is_whole key (reply_bytes 0 reply))
+  unfolding spelling
+  last_tells key true = (refl, refl)
+  last_tells key false = (refl, refl)
+
+  followed_tells : (key : Key) (is_whole : Bool) (others : List ℕ) → Tells (signed_or_short is_whole key (followed_reply reply) ++ others)
+  unfolding spelling
+  followed_tells key true others = (refl, refl)
+  followed_tells key false others = (refl, refl)
+
+  tells_by_key : (key : Option Key) (others : List Reply) → Tells (joined_replies (record reply { key = key } ∷ others))
+  unfolding joined_replies spelling
+  tells_by_key None [] = (refl, refl)
+  tells_by_key None (next ∷ others) = (refl, refl)
+  tells_by_key (Some key) [] = last_tells key (nat_le 64 (length (reply_bytes 0 reply)))
+  tells_by_key (Some key) (next ∷ others) = followed_tells key (nat_le 64 (length (followed_reply reply))) (joined_replies (next ∷ others))
+
+  first_tells : (others : List Reply) → Tells (joined_replies (reply ∷ others))
+  first_tells others = tells_by_key reply.key others
 
 -- what is said of the replies in a frame, in its parts
 by_parts : (Holds : List Reply → Type 0) (outputs : List Output) → ((replies : List Reply) × (outputs ≡ reply_frame 1 (joined_replies replies)) × Holds replies) →
@@ -85,11 +107,15 @@ by_parts Holds outputs told refutes = refutes told.0 told.1 told.2
 second_of : {A B : Type 0} → A × B → B
 second_of both = both.1
 
--- no frame whose first reply has zeros there tells one credit, or the flag 1
-not_one : (place number : ℕ) (outputs sent : List Output) → byte_at place outputs ≡ 0 ∷ [] → outputs ≡ sent → byte_at place sent ≡ (number % 256) ∷ [] → number ≡ 1 → ⊥
-not_one place number outputs sent zeros same told one =
-    let zero : 0 ≡ number % 256 = byte_is 0 (number % 256) (sym zeros ∙ ap (byte_at place) same ∙ told) in
-    omega (arith, zero, one)
+-- no frame whose first reply has zeros there tells one credit, or the flag 1, with the flag 8 or without
+not_zero : (place number told : ℕ) (outputs sent : List Output) → byte_at place outputs ≡ 0 ∷ [] → outputs ≡ sent → byte_at place sent ≡ (number % 256) ∷ [] → 0 < told → told < 256 → number ≡ told → ⊥
+not_zero place number told outputs sent zeros same at some small is =
+    let zero : 0 ≡ number % 256 = byte_is 0 (number % 256) (sym zeros ∙ ap (byte_at place) same ∙ at) in
+    omega (arith, zero, some, small, is)
+
+not_flags : (number : ℕ) (is_signed : Bool) (outputs sent : List Output) → byte_at 16 outputs ≡ 0 ∷ [] → outputs ≡ sent → byte_at 16 sent ≡ (number % 256) ∷ [] → number ≡ 1 + (if is_signed then 8 else 0) → ⊥
+not_flags number true outputs sent zeros same at is = not_zero 16 number 9 outputs sent zeros same at (omega arith) (omega arith) is
+not_flags number false outputs sent zeros same at is = not_zero 16 number 1 outputs sent zeros same at (omega arith) (omega arith) is
 
 module _ {S : Type 0} (m : Meaning S) (accounts : S) where
   abbrev now : ServerState S
@@ -168,7 +194,7 @@ module _ {S : Type 0} (m : Meaning S) (accounts : S) where
   echoed = chain_step m arrival now connection (echo 0 0)
 
   no_credits_told_is_refused : AChainTellsItsCreditsBy no_credits_told → ⊥
-  unfolding chain_of requests_in admitted chain_step one_performed performed header_of known_command request_of spelling joined_replies
+  unfolding chain_of requests_in admitted chain_step one_performed performed verified header_of known_command request_of spelling joined_replies
   no_credits_told_is_refused law =
       by_parts
       (λ replies. AreGranted (record { usable = 1 ∷ []; next = 2 }) echoed.requests replies echoed.connection.window)
@@ -181,8 +207,8 @@ module _ {S : Type 0} (m : Meaning S) (accounts : S) where
           × ((others ≡ [])
           × (echoed.connection.window ≡ record { usable = 1 ∷ upward 2 reply.header.credits; next = 2 + reply.header.credits }))) → ⊥
       not_granted replies sent granted =
-          not_one 14 granted.0.header.credits (with_zeros 18 2 echoed.outputs) (reply_frame 1 (joined_replies (granted.0 ∷ granted.1))) refl
-          (sent ∙ ap (λ (rs : List Reply). reply_frame 1 (joined_replies rs)) granted.2) (credits_at 1 granted.0 granted.1) granted.3
+          not_zero 14 granted.0.header.credits 1 (with_zeros 18 2 echoed.outputs) (reply_frame 1 (joined_replies (granted.0 ∷ granted.1))) refl
+          (sent ∙ ap (λ (rs : List Reply). reply_frame 1 (joined_replies rs)) granted.2) (first_tells 1 granted.0 granted.1).0 (omega arith) (omega arith) granted.3
 
   -- a chain is answered by one frame of the replies to its requests
   abbrev AChainIsAnsweredInOrderBy : Plays S → Type 0
@@ -202,7 +228,7 @@ module _ {S : Type 0} (m : Meaning S) (accounts : S) where
       record step { outputs = with_zeros 20 4 step.outputs }
 
   no_flags_told_is_refused : AChainIsAnsweredInOrderBy no_flags_told → ⊥
-  unfolding chain_of requests_in admitted chain_step one_performed performed header_of known_command request_of spelling joined_replies
+  unfolding chain_of requests_in admitted chain_step one_performed performed verified header_of known_command request_of spelling joined_replies
   no_flags_told_is_refused law =
       by_parts (AreReplies echoed.requests) (with_zeros 20 4 echoed.outputs) (law arrival now connection (echo 0 0))
       (λ replies sent told. not_replied replies sent (second_of told))
@@ -210,5 +236,5 @@ module _ {S : Type 0} (m : Meaning S) (accounts : S) where
       not_replied : (replies : List Reply) → with_zeros 20 4 echoed.outputs ≡ reply_frame 1 (joined_replies replies) →
           ((reply : Reply) × (others : List Reply) × (replies ≡ reply ∷ others) × IsReplyTo (echo 0 0) answer reply × (others ≡ [])) → ⊥
       not_replied replies sent replied =
-          not_one 16 replied.0.header.flags.0 (with_zeros 20 4 echoed.outputs) (reply_frame 1 (joined_replies (replied.0 ∷ replied.1))) refl
-          (sent ∙ ap (λ (rs : List Reply). reply_frame 1 (joined_replies rs)) replied.2) (flags_at 1 replied.0 replied.1) replied.3.flags
+          not_flags replied.0.header.flags.0 (is_some replied.0.key) (with_zeros 20 4 echoed.outputs) (reply_frame 1 (joined_replies (replied.0 ∷ replied.1))) refl
+          (sent ∙ ap (λ (rs : List Reply). reply_frame 1 (joined_replies rs)) replied.2) (first_tells 1 replied.0 replied.1).1 replied.3.flags

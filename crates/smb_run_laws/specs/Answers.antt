@@ -1,5 +1,5 @@
 -- Each request is answered once, in order, and a chain is performed whole.
-use Rattle.std.specs.Prelude.{◌≡◌, ℕ, ◌==◌, not, Bool, true, false, List, [], ◌∷◌, map, filter, Some, MatchOption, if◌then◌else◌}
+use Rattle.std.specs.Prelude.{◌≡◌, ℕ, ◌+◌, ◌==◌, not, Bool, true, false, List, [], ◌∷◌, map, filter, Some, is_some, MatchOption, if◌then◌else◌}
 use Rattle.std.specs.Option.{option_map_or}
 use Rattle.std.specs.List.{AllByRecursion, flat_map}
 use Rattle.smb_wire.specs.Commands.{code_of, known_command}
@@ -22,8 +22,8 @@ use Rattle.smb_engine.specs.Run.{PerformedRequest, admitted, chain_step, message
 use Rattle.smb_engine.specs.State.{ShareState}
 use Rattle.smb_run_laws.specs.Actions.{Action, serves, disconnects, actions_of_run}
 
--- a reply tells a response, to a request of this MessageId, command and charge; it has the flag SERVER_TO_REDIR, 1, and
--- RELATED_OPERATIONS, 4, where the request had it (2.2.1, 3.3.4.1)
+-- a reply tells a response, to a request of this MessageId, command and charge; it has the flag SERVER_TO_REDIR, 1,
+-- RELATED_OPERATIONS, 4, where the request had it, and SIGNED, 8, where the reply is signed (2.2.1, 3.3.4.1)
 pub record IsReplyTo (request : List ℕ) (response : ResponseState) (reply : Reply) : Type 0 where
   pub message_id : reply.header.message_id ≡ (header_of request).message_id
   pub command : reply.header.command ≡ (header_of request).command
@@ -32,7 +32,7 @@ pub record IsReplyTo (request : List ℕ) (response : ResponseState) (reply : Re
   pub tree : reply.header.tree_id ≡ response.ids.tree_id
   pub body : reply.body ≡ response.body
   pub charge : reply.header.credit_charge ≡ (header_of request).credit_charge
-  pub flags : reply.header.flags.0 ≡ (if is_related request then 5 else 1)
+  pub flags : reply.header.flags.0 ≡ (if is_related request then 5 else 1) + (if is_some reply.key then 8 else 0)
 
 -- replies are those to some requests: a CANCEL has none, each other request has one, in order, and nothing else is
 -- replied. That to an SMB_COM_NEGOTIATE is to MessageId 0 (3.3.5.3.1)

@@ -1,0 +1,10 @@
+mod Parts
+mod Denied
+mod Keyless
+mod Readers
+mod Walk
+mod Runs
+mod Messages
+mod Chains
+mod KeylessRuns
+mod WrongSigning
