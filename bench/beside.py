@@ -179,8 +179,8 @@ def turn(server, guest, row):
     return (server.processor_seconds() - before) / count * 1e6, took / count * 1e6
 
 
-def samba(folder, port):
-    """smbd, with a share `data` for guests in a folder."""
+def samba(folder, port, more=''):
+    """smbd, with a share `data` for guests in a folder, and more lines of its configuration."""
     share = os.path.join(folder, 'data')
     os.mkdir(share, 0o777)
     os.chmod(share, 0o777)
@@ -188,7 +188,7 @@ def samba(folder, port):
     conf = os.path.join(folder, 'smb.conf')
     pathlib.Path(conf).write_text(f'[global]\nserver role = standalone server\nmap to guest = Bad User\nguest account = root\n'
                                   f'smb ports = {port}\ninterfaces = 127.0.0.1\nbind interfaces only = yes\nlog file = {folder}/log\n'
-                                  f'server max protocol = SMB2_10\ndisable netbios = yes\n{places}\n'
+                                  f'server max protocol = SMB2_10\ndisable netbios = yes\n{places}\n{more}\n'
                                   f'[data]\npath = {share}\nguest ok = yes\nread only = no\n', encoding='ascii')
     server = Server('smbd', [SMBD, '-F', '--no-process-group', '-s', conf], port, by_ntlm=True)
     end = time.monotonic() + 10
@@ -207,11 +207,11 @@ def limit(folder, kind):
     return Server({'nothing': 'answers alone', 'copy': 'one copy'}[kind], [program, kind])
 
 
-def medians(servers):
+def medians(servers, client=Guest):
     """Of each exchange and server the medians of processor time and of time by the clock, in microseconds a request."""
     found = {}
     for row in EXCHANGES:
-        guests = [(server, Guest(server)) for server in servers]
+        guests = [(server, client(server)) for server in servers]
         for _, guest in guests:
             fills(guest)
         turns = [[turn(server, guest, row) for server, guest in guests] for _ in range(TIMES)]

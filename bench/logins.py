@@ -80,7 +80,7 @@ def sets_up(client, user, number):
         return (client.negotiates() and client.asks(session_setup(1)) == 0
                 and client.asks(tree_connect(2, number)) == 0)
     nt_hash = None if user is None else NT_HASH
-    return (ntlm.logs_in(client, user or 'somebody', nt_hash) == ntlm.COMES_IN
+    return (ntlm.comes_in(client, user or 'somebody', nt_hash)
             and client.asks(tree_connect(3, number)) == 0)
 
 

@@ -34,6 +34,8 @@ SCRIPTS = [
      'nothing else, and one that keeps bytes and copies those of a READ and a WRITE once (bench/limit.c). smbd has a share for guests in a '
      'folder, at most dialect 2.1. The servers take turns, seven each; a figure is the median. The processor time is the server\'s own, with '
      'the system\'s part in it; the time by the clock has the client\'s, a script in Python, in it. bench/beside.svg shows the first.'),
+    ('signed.py', [PROGRAM], 'The same beside smbd with each request and each response signed: an account logs in by its password, with '
+     '`--signing required` here and `server signing = mandatory` there.'),
     ('serving.py', [], 'Exchanges over TCP on one machine, and what the program takes while nobody speaks. The client is a script in Python, '
      'whose time is in the figures. A client keeps so many requests in flight. A set-up is a connection that negotiates, sets up a session, '
      'connects to the share and ends. Of as many bytes in flight, long requests cost the program no more for each byte than short ones.'),

@@ -20,7 +20,7 @@ Line = collections.namedtuple('Line', 'label command sentence status section')
 Refusal = collections.namedtuple('Refusal', 'command status why')
 
 HEADING = re.compile(r'#+ (?P<word>\w+).*?(?P<section>(?:\[MS-\w+\] )?\d+(?:\.\d+)+)?\)?$')
-IN_A_TABLE = re.compile(r'\| (?P<label>[A-Z]+\d+b?) \| (?P<sentence>.+) \| (?P<status>[A-Z_]+) \|')
+IN_A_TABLE = re.compile(r'\| (?P<label>[A-Z]+\d+[ab]?) \| (?P<sentence>.+) \| (?P<status>[A-Z_]+) \|')
 SECTION = re.compile(r'\b(?P<command>[A-Z]+(?:_[A-Z]+)*) \((?P<section>3\.3\.5\.\d+)\)')
 # The letters of the rows of a SET_INFO of each class.
 OF_CLASS = {4: 'SB', 13: 'SD', 19: 'SZ', 20: 'SZ', RENAME: 'N'}

@@ -6,7 +6,8 @@ list, get, rename and delete a file there; and which are refused, and how.
 
 Run by hand: the clients are Debian's packages smbclient, samba-testsuite, rclone, python3-impacket and python3-smbc,
 which the gate does not need. One that is absent is said to be. The program is crates/smbshare/out/smbshare where none
-is named. A line for each client, and what it said where it failed. With --at one client, by the name in its line, tries
+is named. A line for each client, and what it said where it failed: with `--signing off`, `offered` and `required`, and with
+the last two those that insist on signing too. With --at one client, by the name in its line, tries
 a share that is served already at a port of this machine.
 """
 import os
@@ -87,8 +88,8 @@ def rclone(port, folder, user, password):
     return (folder / "b.txt").read_text() == TEXT, said
 
 
-def torture(port, user, password):
-    return ran("smbtorture", "-p", port, f"//{HOST}/data", "-U", f"{user}%{password}", "smb2.connect")
+def torture(port, user, password, test="smb2.connect", *words):
+    return ran("smbtorture", "-p", port, f"//{HOST}/data", "-U", f"{user}%{password}", *words, test)
 
 
 def python(port, program, user, password):
@@ -115,10 +116,24 @@ CLIENTS = (
     *clients_of(*GUEST),
     *clients_of(*ANN),
 )
+INSIST = "--option=clientsigning=required"
+SIGNS = "it._SMBConnection._Connection['RequireSigning'] = True\n"
+# Those that insist on signing.
+SIGNING = (
+    *((" ".join(("smbclient", *words)), "smbclient",
+       lambda port, folder, words=words: smbclient(port, folder, *words, "-U", "%".join(ANN)))
+      for words in (("--client-protection=sign",), ("--client-protection=sign", "-m", "SMB2_02"))),
+    *((f"smbtorture {test} {INSIST}", "smbtorture", lambda port, folder, test=test: torture(port, *ANN, test, INSIST))
+      for test in ("smb2.rw.rw1", "smb2.dir.many")),
+    ("impacket, which signs", "/usr/lib/python3/dist-packages/impacket",
+     lambda port, folder: python(port, IMPACKET.replace("it.login", f"{SIGNS}it.login"), *ANN)),
+)
+# Behind a LOGOFF it wants a signed response, of a session that is gone.
+WANTS_A_KEY_THAT_IS_GONE = f"smbtorture smb2.connect -U {'%'.join(ANN)}"
 # Words of smbclient by which it does not come in, and the status that it tells.
 REFUSED = (
     (("-U", "%".join(WRONG)), "NT_STATUS_LOGON_FAILURE"),
-    (("--client-protection=sign", "-U", "%".join(ANN)), "NT_STATUS_ACCESS_DENIED"),
+    (("--client-protection=sign", "-N"), "NT_STATUS_ACCESS_DENIED"),
     (("--option=client ntlmv2 auth=no", "-U", "%".join(ANN)), "NT_STATUS_LOGON_FAILURE"),
     (("--use-kerberos=required", "-U", "%".join(ANN)), "NT_STATUS_ACCESS_DENIED"),
     (("--option=client min protocol=SMB3", "-U", "%".join(ANN)), "NT_STATUS_NOT_SUPPORTED"),
@@ -146,17 +161,26 @@ def tried(port, clients, outcome="works"):
 
 
 def tried_with(program):
-    """Tries each client with a share of this program, to guests and to an account, and gives how many failed."""
+    """Tries each client with shares of this program, to guests and to an account, and gives how many failed."""
     with tempfile.TemporaryDirectory() as folder:
         accounts = accounts_file(folder, account(ANN[0]))
-        with program.serve("--config", SHARE, "--login", "ntlm", "--accounts", accounts) as share:
-            port = str(share.port)
-            return tried(port, CLIENTS) + sum(tried(port, [refused_by(*it)], f"is refused, {it[1]}") for it in REFUSED)
+        return sum(tried_signed(program, accounts, mode) for mode in ("off", "offered", "required"))
+
+
+def tried_signed(program, accounts, mode):
+    """Tries each client with a share whose accounts are signed so."""
+    print(f"--signing {mode}", flush=True)
+    words = ("--config", SHARE, "--login", "ntlm", "--accounts", accounts, "--signing", mode)
+    clients = [it for it in CLIENTS if mode != "required" or it[0] != WANTS_A_KEY_THAT_IS_GONE]
+    with program.serve(*words) as share:
+        port = str(share.port)
+        return (tried(port, clients) + (mode != "off" and tried(port, SIGNING))
+                + sum(tried(port, [refused_by(*it)], f"is refused, {it[1]}") for it in REFUSED))
 
 
 def main(words):
     if words[:1] == ["--at"] and len(words) == 3:
-        named = [it for it in (*CLIENTS, *(refused_by(*one) for one in REFUSED)) if it[0] == words[2]]
+        named = [it for it in (*CLIENTS, *SIGNING, *(refused_by(*one) for one in REFUSED)) if it[0] == words[2]]
         return 1 if not named or tried(words[1], named) else 0
     return 1 if tried_with(Program(*words)) else 0
 

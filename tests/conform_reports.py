@@ -34,7 +34,7 @@ def a_row_is_found_without_a_log(_):
     rows = Rows()
     several = rows.row_of('CREATE', 'STATUS_ACCESS_DENIED', (0, 0))
     return (rows.row_of('CREATE', 'STATUS_SHARING_VIOLATION', (0, 0)).title == 'C15'
-            and several.title == 'CREATE STATUS_ACCESS_DENIED' and several.sentence == 'one of C6, C6b, C9b, C13'
+            and several.title == 'CREATE STATUS_ACCESS_DENIED' and several.sentence == 'one of P0a, P0b, C6, C6b, C9b, C13'
             and rows.row_of('SET_INFO', 'STATUS_OBJECT_PATH_NOT_FOUND', (0, 0), 10)[::2] == (
                 'N6', '[MS-FSA] 2.1.5.15.11')
             and rows.row_of('READ', '', None) == ('READ (none refuses)', '', '[MS-SMB2] 3.3.5.12'))

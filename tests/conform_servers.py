@@ -63,7 +63,7 @@ def ran_signed(program, changes):
         accounts, password = ntlm.accounts_file(folder, ntlm.account('ann')), os.path.join(folder, 'password')
         with open(password, 'w', encoding='ascii') as file:
             file.write('Password')
-        with served(program, '--accounts', accounts) as share, Between(share.port, answers) as server:
+        with served(program, '--accounts', accounts, '--signing', 'off') as share, Between(share.port, answers) as server:
             words = ('--only', 'dispositions', '--every', '100', '--user', 'ann', '--password-file', password)
             return ran(program, server.port, *words), server.heard
 

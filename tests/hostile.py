@@ -14,7 +14,7 @@ import tempfile
 
 from tests.smb.chance import some_bytes
 from tests.smb.frames import frame as frame_of_payload
-from tests.smb.rows import BY_HAND, Rows, line_of, login_words
+from tests.smb.rows import BY_HAND, Rows, line_of, login_words_of
 from tools import frame as frame_tool
 
 SEED, COUNT = 20_261_126, 2_000
@@ -33,13 +33,13 @@ class Session:
         self.answers = [line_of(*event) for event in events if event[0] == '<']
         if len(self.answers) != sum(event[0] == '>' for event in self.come):
             raise ValueError(f'{name}: not each frame has one answer')
-        lines = rows.lines[name]
         where = os.path.join(folder, name)
         os.mkdir(where)
-        self.words = login_words(where, *(any(line.startswith(it) for line in lines) for it in ('config ', 'account ')))
+        self.words = login_words_of(where, rows.lines[name])
         words = frame_tool.read(next(frame for sign, _, frame in events if sign == '<' and b'NTLM' not in frame))
-        hello = words.partition(' Buffer=')[2]
-        negotiated = f'response NEGOTIATE Credits=31 DialectRevision=SMB_2_0_2 Buffer={hello}'
+        hello, is_required = words.partition(' Buffer=')[2], 'SecurityMode=3' in words
+        mode = 'SecurityMode=3 ' * is_required
+        negotiated = f'response NEGOTIATE Credits=31 {mode}DialectRevision=SMB_2_0_2 Buffer={hello}'
         self.newcomer = Newcomer(rows, frame_tool.as_bytes(frame_tool.write(negotiated)))
         self.next = 1 + max(number for _, number, _ in events)
 

@@ -322,7 +322,7 @@ def an_account_logs_in_by_its_password(program):
     with tempfile.TemporaryDirectory() as folder, served_to_ann(program, folder) as share:
         for session, user in ((1, 'ann'), (2, 'ANN')):
             client = share.client()
-            if ntlm.logs_in(client, user, right) != ntlm.COMES_IN or client.asks(tree_connect(3, session)) != 0:
+            if not ntlm.comes_in(client, user, right) or client.asks(tree_connect(3, session)) != 0:
                 return False
         denied = [ntlm.logs_in(share.client(), user, nt_hash)[0]
                   for user, nt_hash in (('ann', wrong), ('ann', None), ('bob', right), ('', None))]
@@ -331,7 +331,8 @@ def an_account_logs_in_by_its_password(program):
         comes = [ntlm.logs_in(share.client(), user, nt_hash)
                  for user, nt_hash in (('ann', right), ('bob', wrong), ('', None))]
         stays = ntlm.logs_in(share.client(), 'ann', wrong)[0]
-    return denied == [DENIED] * 4 and comes == [ntlm.COMES_IN] * 3 and stays == DENIED
+    return (denied == [DENIED] * 4 and comes == [ntlm.USER_COMES_IN, ntlm.COMES_IN, ntlm.COMES_IN]
+            and stays == DENIED)
 
 
 # The rights that MaximalAccess names of who may write and of who may only read, and the status of what is denied.
@@ -387,7 +388,7 @@ def accounts_may_only_read_too(program):
             with program.serve('--login', 'ntlm', '--accounts', name, *words) as share:
                 for session, (user, nt_hash) in enumerate((('ann', right), ('BOB', right), ('somebody', None)), 1):
                     client = share.client()
-                    comes = ntlm.logs_in(client, user, nt_hash) == ntlm.COMES_IN
+                    comes = ntlm.comes_in(client, user, nt_hash)
                     told.append(comes and maximal_access(client, 3, session))
     return told == [WRITERS, READERS, READERS, WRITERS, READERS, WRITERS]
 

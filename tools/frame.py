@@ -3,6 +3,7 @@
 
     frame.py write 'CREATE MessageId=3 SessionId=1 TreeId=1 DesiredAccess=READ_DATA CreateDisposition=OPEN Name=x\\y'
     frame.py write --hex 'ECHO MessageId=1'
+    frame.py write --key 000102030405060708090a0b0c0d0e0f 'LOGOFF MessageId=4 SessionId=1'
     frame.py read '00000044 fe534d42 4000 z6 0d00 0100 z8 0100000000000000 z32 0400 0000'
     frame.py check ROWS..
 
@@ -10,12 +11,15 @@
 begins with `response` before its command. ` ; ` joins the requests, or the responses, of a chain. A field that is not
 named has the value that most messages give it. Numbers are decimal or begin with 0x; names of flags are joined by `|`;
 a buffer of bytes is hex, or its text in quotes as tools/lib/demo.py shows it; any other text is ASCII without a blank. `read` prints what `write` takes, without the fields of usual
-values. `check` reads each whole frame of rows and writes it again: the bytes must be the same. What is wrong is named
+values. With `--key` `write` signs each message by a session's key, and `read` tells which is not signed by it.
+`check` reads each whole frame of rows and writes it again: the bytes must be the same. What is wrong is named
 in one line on standard error, and the status is 1. This tool is for people who write rows; nothing that is proved rests
 on it.
 """
 import ast
 import functools
+import hashlib
+import hmac
 import pathlib
 import re
 import sys
@@ -340,15 +344,38 @@ def put_message(words, is_last):
     return head + body + [padding]
 
 
-def write(text):
-    """The words of a frame."""
+SIGNED = 8
+
+
+def signature_of(message, key):
+    """The signature of a message by a key, whatever it has in the signature's place ([MS-SMB2] 3.1.4.1)."""
+    return hmac.new(key, message[:48] + bytes(16) + message[64:], hashlib.sha256).digest()[:16]
+
+
+def signed(parts, key):
+    """The parts of a message, with the flag SIGNED and its signature by a key."""
+    names = [name for name, *_ in table(HEADER)[0]]
+    flags_at, signature_at = names.index("HeaderFlags"), names.index("Signature")
+    flags_set = int.from_bytes(parts[flags_at], "little") | SIGNED
+    parts = [flags_set.to_bytes(4, "little") if at == flags_at else it for at, it in enumerate(parts)]
+    signature = signature_of(b"".join(parts), key)
+    return [signature if at == signature_at else it for at, it in enumerate(parts)]
+
+
+def is_signed(message, key):
+    return message[16] & SIGNED != 0 and message[48:64] == signature_of(message, key)
+
+
+def write(text, key=None):
+    """The words of a frame, whose messages are signed where there is a key."""
     messages = [[]]
     for word in WORD.findall(text):
         if word == ";":
             messages.append([])
         else:
             messages[-1].append(word)
-    parts = [part for i, it in enumerate(messages) for part in put_message(it, i + 1 == len(messages))]
+    written = [put_message(it, i + 1 == len(messages)) for i, it in enumerate(messages)]
+    parts = [part for it in written for part in (it if key is None else signed(it, key))]
     return as_words([sum(map(len, parts)).to_bytes(4, "big"), *parts])
 
 
@@ -435,14 +462,16 @@ def read_message(raw):
     return " ".join(words)
 
 
-def read(raw):
-    """The words of a whole frame."""
+def read(raw, key=None):
+    """The words of a whole frame, whose messages must be signed by the key where there is one."""
     if len(raw) < 68 or raw[0] or int.from_bytes(raw[:4], "big") != len(raw) - 4:
         raise Unread("no whole frame")
     payload, messages = raw[4:], []
     while payload:
         step = int.from_bytes(payload[20:24], "little") or len(payload)
         messages.append(read_message(payload[:step]))
+        if key is not None and not is_signed(payload[:step], key):
+            raise Unread(f"message {len(messages)} is not signed by this key")
         payload = payload[step:]
     return " ; ".join(messages)
 
@@ -498,6 +527,10 @@ BY_HAND = {
 }
 
 
+# A key, and two messages signed by it.
+KEY = "000102030405060708090a0b0c0d0e0f"
+BY_KEY = "CREATE MessageId=4 SessionId=1 DesiredAccess=READ_DATA Name=a ; CLOSE MessageId=5 SessionId=1 FileId=1"
+
 # A command and its words, and what is said of the one that is wrong.
 WRONG = (
     (("write", ""), "no command ''"),
@@ -529,6 +562,11 @@ WRONG = (
     (("read", "$name"), "'$name' is neither hex nor another word of a row"),
     (("read", "00000040 fe534d42 z60"), "its bytes end"),
     (("read", "00000044 ff534d42 z64"), "no header"),
+    (("write", "--key"), "--key: '' is not 16 bytes in hex"),
+    (("read", "--key", KEY, "00000044 fe534d42 4000 z6 0d00 0100 z8 0100000000000000 z32 0400 0000"),
+     "message 1 is not signed by this key"),
+    (("read", "--key", KEY, "00000044 fe534d42 4000 z6 0d00 0100 08 z7 0100000000000000 z16 16*11 0400 0000"),
+     "message 1 is not signed by this key"),
     (("other",), "no command 'other': write, read or check"),
 )
 
@@ -538,6 +576,10 @@ def selftest():
         raw = as_bytes(frame)
         if as_bytes(write(words)) != raw or read(raw) != words or told_of("write", "--hex", words) != raw.hex():
             raise Unread(f"not as it was set by hand: {words}: {write(words)}: {read(raw)}")
+    raw = as_bytes(told_of("write", "--key", KEY, BY_KEY))
+    words = told_of("read", "--key", KEY, raw.hex())
+    if as_bytes(write(words)) != raw:
+        raise Unread(f"not signed as it is read: {words}")
     for words, said in WRONG:
         try:
             found = told_of(*words)
@@ -566,12 +608,17 @@ def check(files):
 
 def told_of(verb="", *words):
     """What is printed of the words of a command."""
-    if verb == "write" and words[:1] == ("--hex",):
-        return as_bytes(write(" ".join(words[1:]))).hex()
+    is_hex, key = False, None
+    while words[:1] == ("--key",) or (verb == "write" and words[:1] == ("--hex",)):
+        if words[0] == "--hex":
+            is_hex, words = True, words[1:]
+        else:
+            key, words = number("--key", 16, "".join(words[1:2])), words[2:]
     if verb == "write":
-        return write(" ".join(words))
+        found = write(" ".join(words), key)
+        return as_bytes(found).hex() if is_hex else found
     if verb == "read":
-        return read(as_bytes(" ".join(words)))
+        return read(as_bytes(" ".join(words)), key)
     raise Unread(f"no command {verb!r}: write, read or check")
 
 

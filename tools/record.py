@@ -1,9 +1,9 @@
 """record.py: records what a client and the share say to each other, as a row of crates/smb_rows.
 
-    python3 -m tools.record [--program PROGRAM] [--guest] [--ann] NAME COMMENT COMMAND ..
+    python3 -m tools.record [--program PROGRAM] [--guest] [--ann] [--signing MODE] NAME COMMENT COMMAND ..
 
 The share is served with `--login ntlm` and a given seed: to guests with `--guest`, to the account `ann`, whose password
-is `Password`, with `--ann`. Each moment in it is the start of 1970 (tests/c/odd_system.c), as in a row that names none.
+is `Password`, with `--ann`, unsigned where no mode is given. Each moment in it is the start of 1970 (tests/c/odd_system.c), as in a row that names none.
 The command is run, with {port} in its words replaced by the port of a proxy that stands between the client and the
 share, and hands on whole frames. What the command says goes to standard error. The row goes to standard output: a line
 for each frame, in the order in which they came, with the words of tools/frame.py where it has them. It is a row only
@@ -143,8 +143,9 @@ def words_of(frame):
 
 def row_of(words, said):
     lines = [f"== {words.name}", f"# {words.comment}"]
-    if words.guest:
-        lines.append("config guest = false => guest = true")
+    if words.guest or words.signing != "off":
+        signing = f'\\nsigning = "{words.signing}"' * (words.signing != "off")
+        lines.append(f"config guest = false => guest = {'true' if words.guest else 'false'}{signing}")
     lines.append(f"ntlm {SEED}")
     if words.ann:
         lines.append(f"account {USER} {PASSWORD_HASH}")
@@ -158,6 +159,7 @@ def read_words():
     reader.add_argument("--program", default=PROVED)
     for option in ("--guest", "--ann"):
         reader.add_argument(option, action="store_true")
+    reader.add_argument("--signing", default="off")
     reader.add_argument("name")
     reader.add_argument("comment")
     reader.add_argument("command", nargs=argparse.REMAINDER)
@@ -168,7 +170,7 @@ def main():
     words = read_words()
     program = Program(words.program)
     with tempfile.TemporaryDirectory() as folder:
-        login = login_words(folder, words.guest, words.ann)
+        login = login_words(folder, words.guest, words.ann, words.signing if words.ann else None)
         said = recorded(program, login, words.command)
         if said is None or not is_repeated(program, login, said):
             sys.exit("record.py: the command failed" if said is None else "record.py: a replay answers otherwise")

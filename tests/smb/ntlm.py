@@ -16,9 +16,9 @@ NEGOTIATE = SIGN + struct.pack('<II', 1, UNICODE)
 NEGOTIATE_OF_NOBODY = NEGOTIATE + bytes(16)
 USUAL_NEGOTIATE = SIGN + struct.pack('<II', 1, USUAL) + bytes(16)
 CHALLENGE = SIGN + struct.pack('<I', 2)
-# The status of the answer to the first message; and what a right login ends with: its status, and the session's flags,
-# which are a guest's.
-MORE_PROCESSING, COMES_IN = 0xC0000016, (0, 1)
+# The status of the answer to the first message; and what a right login ends with: its status, and the session's flags, a
+# guest's, which an account has too where nothing is signed, and an account's.
+MORE_PROCESSING, COMES_IN, USER_COMES_IN = 0xC0000016, (0, 1), (0, 0)
 # The NT hash of the password `Password` ([MS-NLMP] 4.2.2.1.2).
 PASSWORD_HASH = 'a4f49c406510bdcab6824ee7c30fd852'
 # The names of SPNEGO and of NTLM ([MS-SPNG] 1.9), as objects of DER.
@@ -86,6 +86,11 @@ def authenticate(user, response=b'', flags=UNICODE):
     responded = struct.pack('<HHI', len(response), len(response), 64 + len(name))
     return (SIGN + struct.pack('<I', 3) + nothing + responded + nothing + named + nothing * 2
             + struct.pack('<I', flags) + name + response)
+
+
+def comes_in(client, user, nt_hash=None):
+    """Whether a login is right: a guest's without the hash of a password, or an account's where sessions may be signed."""
+    return logs_in(client, user, nt_hash) == (COMES_IN if nt_hash is None else USER_COMES_IN)
 
 
 def logs_in(client, user, nt_hash=None):

@@ -1,5 +1,6 @@
 """The rows of crates/smb_rows, and what is replayed of them: by tools/record.py, and by tests."""
 import pathlib
+import re
 
 from tests.smb import ntlm
 from tests.smb.program import GUEST, TOP
@@ -49,8 +50,16 @@ def line_of(sign, number, frame):
     return f'{sign} {number}{moment} {frame.hex()}'.rstrip() + '\n'
 
 
-def login_words(folder, is_guest, is_user):
+def login_words(folder, is_guest, is_user, signing=None):
     """The words of the program by which guests, and the user of an account, log in under the seed."""
     config = ('--config', GUEST) if is_guest else ()
     accounts = ('--accounts', ntlm.accounts_file(folder, ntlm.account(USER))) if is_user else ()
-    return ('--login', 'ntlm', '--seed', SEED, *config, *accounts)
+    mode = ('--signing', signing) if signing else ()
+    return ('--login', 'ntlm', '--seed', SEED, *config, *accounts, *mode)
+
+
+def login_words_of(folder, lines):
+    """Those of a row, by its lines."""
+    text = '\n'.join(lines)
+    signing = re.search(r'signing = "(\w+)"', text)
+    return login_words(folder, '=> guest = true' in text, '\naccount ' in text, signing and signing[1])

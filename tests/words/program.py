@@ -272,7 +272,7 @@ def check_says_what_would_be_served(program):
     names = [line.split('"')[1] for line in ACCOUNTS.splitlines() if line.startswith('name')]
     said = (('login: token, users: 1', 'guests: no'), ('login: token, users: 0', 'guests: yes'),
             (f'login: ntlm, accounts: {len(names) + 1}', *(f'account: {name}' for name in names), 'account: eve, to read only',
-             'guests: yes, to read only'))
+             'guests: yes, to read only', 'signing: offered'))
     notices = [errors.count(b'\n') for _, _, errors in found]
     wanted = [(0, ''.join(f'{line}\n' for line in share + lines)) for lines in said]
     if [(status, output.decode()) for status, output, _ in found] != wanted or notices != [1, 0, 0]:

@@ -5,7 +5,7 @@ from tests.smb.frames import create, frame, header, negotiate
 from tests.smb.ntlm import PASSWORD_HASH as HASH
 
 SHARE_RULE = 'share: a text of 1 to 80 characters from ! to ~, none of them one of " * / : < > ? \\ |'
-KEYS_RULE = 'keys: none but share, label, guid, capacity, created, hello, guest, guest_readonly, limits and user'
+KEYS_RULE = 'keys: none but share, label, guid, capacity, created, hello, guest, guest_readonly, signing, limits and user'
 CAPACITY_RULE = 'capacity: a multiple of 4096 from 4096 to limits.capacity, by default 67108864'
 LIMIT_KEYS_RULE = 'limits: no keys but connections, opens, locks, entries, file_bytes and capacity'
 FLAG_RULE = 'true or false, where it is given'
@@ -48,6 +48,9 @@ BROKEN = (
     ('guest = false', 'guest = false\nguest_readonly = 1', f'guest_readonly: {FLAG_RULE}; line 9: 1'),
     ('guest = false', 'guest_readonly = "true"\nguest = false', f'guest_readonly: {FLAG_RULE}; line 8: "true"'),
     ('guest = false', 'guest = 0\nguest_readonly = 0', 'guest: true or false; line 8: 0'),
+    ('guest = false', 'guest = false\nsigning = true', 'signing: off, offered or required, where it is given; line 9: true'),
+    ('guest = false', 'signing = "on"\nguest = false', 'signing: off, offered or required, where it is given; line 8: "on"'),
+    ('guest = false', 'guest = false\nsigning = "offered"', 'signing: off, without accounts; line 9: "offered"'),
     ('guest = false', 'guest = false\nguest_read_only = true', f'{KEYS_RULE}; line 9: guest_read_only'),
     ('guest = false', 'guest = false\nreadonly = true', f'{KEYS_RULE}; line 9: readonly'),
     ('guest = false', 'guest = false\nother = 1', f'{KEYS_RULE}; line 9: other'),
@@ -125,7 +128,7 @@ BROKEN_ACCOUNTS = (
     ('name = "bob"', "name = 'Guest'", f"{GUEST_RULE}; account 2; line 7: 'Guest'"),
     ('name = "bob"', 'name = "ANN"', f'{TAKEN_RULE}; account 2; line 7: "ANN"'),
 )
-BY_NTLM = ("login by NTLM: of the configuration `guest` and `guest_readonly` count; its users' tokens are not used, "
+BY_NTLM = ("login by NTLM: of the configuration `guest`, `guest_readonly` and `signing` count; its users' tokens are not used, "
            'accounts are in the file of --accounts')
 NO_USER = 'no client can log in: the configuration has no user, and its `guest` is false'
 NO_ACCOUNT = "no client can log in: there is no account (--accounts FILE), and the configuration's `guest` is false"

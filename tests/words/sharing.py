@@ -67,7 +67,7 @@ class Visitor(Client):
         return self.asked
 
     def comes_in(self, name, user, nt_hash):
-        if ntlm.logs_in(self, user, nt_hash) != ntlm.COMES_IN:
+        if not ntlm.comes_in(self, user, nt_hash):
             return False
         self.session = struct.unpack_from('<Q', self.last, SESSION_ID_AT)[0]
         return self.asks(tree_connect(self.next(), self.session, f'\\\\s\\{name}')) == 0

@@ -24,7 +24,7 @@ def tables():
 def labels_of_sources():
     """The labels that the sources give to rows."""
     sources = [it.read_text(encoding="utf-8") for pattern in LABELLED for it in TOP.glob(pattern)]
-    return {it for text in sources for it in re.findall(r'=> "([A-Z]+[0-9]+b?)",', text)} - set(OF_NO_CONNECTION)
+    return {it for text in sources for it in re.findall(r'=> "([A-Z]+[0-9]+[ab]?)",', text)} - set(OF_NO_CONNECTION)
 
 
 def rows(printed):
