@@ -1,0 +1,7 @@
+pub mod Codes
+pub mod Cuts
+pub mod Damage
+pub mod Kept
+pub mod Reading
+pub mod WrongBatches
+pub mod Chain

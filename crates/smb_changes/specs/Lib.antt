@@ -1,0 +1,4 @@
+pub mod Batches
+pub mod Crash
+pub mod Shown
+pub mod Chains

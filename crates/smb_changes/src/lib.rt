@@ -1,0 +1,28 @@
+//! Changes of a share's files as bytes, in batches that are each written whole.
+//!
+//! A [`Change`] says what an entry is, puts bytes into a file, sets a file's size, removes an entry, or raises the next
+//! number. It speaks of entries by their numbers, and what changes make of files is `replayed` of the library
+//! `smb_files`. [`put_change`] adds the bytes of one, and [`read_change`] reads one.
+//!
+//! [`put_batch`] adds a batch: its front, of 24 bytes, the bytes of its changes, and its back, of 9 bytes
+//! (`specs/Batches.antt`). Each number of a batch stands in 8 bytes, the lowest first. Batches are numbered from 1 on,
+//! and each is chained to the one before it: both its checks are begun with a seed, which is the check in the back of
+//! the batch before, and of the first batch a number that is kept elsewhere. So a batch that was written by another
+//! seed is never read, though its number is right. [`check_of`] finds damage, and keeps nobody from writing what he
+//! likes. [`read_batch`] reads the batch of a number and a seed, and gives the seed of the next.
+//!
+//! The last byte of a batch is not 0. So of a beginning of the bytes, with zeros behind it or none, those batches are
+//! read that lie wholly in it, and no other, whatever the checks say. That, and that no such beginning is taken for
+//! damage, is the contract of [`laws_of_batches`] (`specs/Crash.antt`, `specs/Chains.antt`). That a file keeps what was
+//! written in order, up to some byte, is not proved here, nor that other damage is found.
+#![tactic(auto)]
+
+mod batch;
+mod change;
+mod laws;
+mod read;
+
+pub use batch::{check_of, put_batch};
+pub use change::{Change, put_change};
+pub use laws::laws_of_batches;
+pub use read::{BatchView, read_batch, read_change};
