@@ -38,7 +38,7 @@ fn write_accounts<W: Write>(accounts: &Accounts, output: &mut W) -> io::Result<(
     Ok(())
 }
 
-/// How sessions are signed of those who log in so.
+/// How the sessions of a login are signed: those of tokens never, those of accounts by the configuration.
 fn signing_for(
     configuration: &Configuration,
     accounts: &Accounts,

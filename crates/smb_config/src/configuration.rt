@@ -90,7 +90,7 @@ pub struct Configuration {
     pub guest: bool,
     /// Whether guests may only read.
     pub guest_read_only: bool,
-    /// How sessions of accounts are signed, where it says so.
+    /// How sessions of accounts are signed, where the text has the key `signing`.
     pub signing: Option<SigningMode>,
     /// How many users there are, each with a token.
     pub users: usize,

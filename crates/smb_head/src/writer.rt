@@ -258,8 +258,8 @@ impl ReplyWriter {
         self.has_keys |= key.is_some();
     }
 
-    /// Signs each reply that has a key, over its header, its body and its padding, where it stands. It is called once, when
-    /// all replies are closed. It takes no memory.
+    /// Writes into each reply of `out` that has a key its signature, of its header, its body and its padding. It is called
+    /// once, when all replies are closed. It takes no memory.
     pub fn sign(&self, out: &mut Vec<u8>)
         requires { self.now.last ≤ length out.old.items }
         ensures signed { (before : List ℕ) (replies : List Reply) → self.now ≡ placed before replies → out.old.items ≡ replies_written before replies →

@@ -179,7 +179,7 @@ fn put_target(out: &mut Vec<u8>) -> Result<(), WireFault>
     Ok(())
 }
 
-/// Adds a CHALLENGE ([MS-NLMP] 2.2.1.2) with these flags, of 116 bytes. After an error some of it stands there.
+/// Adds a CHALLENGE ([MS-NLMP] 2.2.1.2) with these flags, of 116 bytes. After an error `out` may have a part of it.
 pub fn put_challenge(out: &mut Vec<u8>, flags: u32, challenge: &[u8; 8]) -> Result<(), WireFault>
     ensures { OnOk result (out.new.items ≡ out.old.items ++ challenge_message flags challenge.now) }
 {

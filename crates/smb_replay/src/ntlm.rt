@@ -64,7 +64,7 @@ pub fn new_ntlm(
 }
 
 /// A new share of a configuration to which clients log in by NTLM, as [`new_ntlm`] lets them in. Nothing is signed, unless the
-/// configuration says so.
+/// configuration has the key `signing`.
 pub fn new_ntlm_share(
     alloc: Global,
     configuration: Configuration,
