@@ -124,12 +124,10 @@ SIGNING = (
        lambda port, folder, words=words: smbclient(port, folder, *words, "-U", "%".join(ANN)))
       for words in (("--client-protection=sign",), ("--client-protection=sign", "-m", "SMB2_02"))),
     *((f"smbtorture {test} {INSIST}", "smbtorture", lambda port, folder, test=test: torture(port, *ANN, test, INSIST))
-      for test in ("smb2.rw.rw1", "smb2.dir.many")),
+      for test in ("smb2.connect", "smb2.rw.rw1", "smb2.dir.many")),
     ("impacket, which signs", "/usr/lib/python3/dist-packages/impacket",
      lambda port, folder: python(port, IMPACKET.replace("it.login", f"{SIGNS}it.login"), *ANN)),
 )
-# Behind a LOGOFF it wants a signed response, of a session that is gone.
-WANTS_A_KEY_THAT_IS_GONE = f"smbtorture smb2.connect -U {'%'.join(ANN)}"
 # Words of smbclient by which it does not come in, and the status that it tells.
 REFUSED = (
     (("-U", "%".join(WRONG)), "NT_STATUS_LOGON_FAILURE"),
@@ -171,10 +169,9 @@ def tried_signed(program, accounts, mode):
     """Tries each client with a share whose accounts are signed so."""
     print(f"--signing {mode}", flush=True)
     words = ("--config", SHARE, "--login", "ntlm", "--accounts", accounts, "--signing", mode)
-    clients = [it for it in CLIENTS if mode != "required" or it[0] != WANTS_A_KEY_THAT_IS_GONE]
     with program.serve(*words) as share:
         port = str(share.port)
-        return (tried(port, clients) + (mode != "off" and tried(port, SIGNING))
+        return (tried(port, CLIENTS) + (mode != "off" and tried(port, SIGNING))
                 + sum(tried(port, [refused_by(*it)], f"is refused, {it[1]}") for it in REFUSED))
 
 

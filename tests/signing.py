@@ -9,7 +9,7 @@ import struct
 import tempfile
 
 from tests.smb import ntlm
-from tests.smb.frames import chain, close, create, echoes, frame, header, negotiate, read, tree_connect, write
+from tests.smb.frames import chain, close, create, echoes, frame, header, logoff, negotiate, read, tree_connect, write
 from tests.smb.program import GUEST
 from tests.smb.signed import (NEGOTIATED_MODE_AT, SigningClient, is_right, is_unsigned, messages_of, signature, signed,
                               status_of, with_flag, with_signature)
@@ -157,6 +157,33 @@ def each_request_of_a_chain_is_checked(program):
     return whole == ([0, 0, 0], True) and changed == one and padded == one
 
 
+def who_is_gone_is_told_so_signed(program):
+    """Behind a LOGOFF, and where another connection took the session's place, a signed request of it is answered by
+    USER_SESSION_DELETED, signed by its key, whatever its own signature; an unsigned one unsigned. Behind 16 other logins of the
+    connection the key is gone."""
+    def is_told(client, message_id):
+        echo = tree_connect(message_id, client.session)
+        right, plain = client.asks_signed(echo), client.answers(tree_connect(message_id + 1, client.session))[0]
+        wrong = client.answers(frame(with_flag(tree_connect(message_id + 2, client.session)[4:])))[0]
+        return (all(status_of(it) == SESSION_DELETED for it in (right, plain, wrong))
+                and is_right(right, client.key) and is_unsigned(plain) and is_right(wrong, client.key))
+
+    with served(program, 'required') as share:
+        client, gone = comes_in(share), (0, b'')
+        left = client.asks_signed(logoff(3, client.session))
+        told = status_of(left) == 0 and is_right(left, client.key) and is_told(client, 4)
+        gone, message_id = (client.session, client.key), 7
+        for _ in range(16):
+            told = told and client.logs_in(begin=message_id)
+            told = told and status_of(client.asks_signed(logoff(message_id + 2, client.session))) == 0
+            message_id += 3
+        client.session, client.key = gone
+        forgotten = client.asks_signed(tree_connect(message_id, client.session))
+        first, second = comes_in(share), client_of(share)
+        came = second.negotiates() and second.logs_in(previous=first.session)
+        return (told and status_of(forgotten) == SESSION_DELETED and is_unsigned(forgotten) and came and is_told(first, 3))
+
+
 def guests_come_in_unsigned(program):
     """A guest has no key: what it sends is not checked, and nothing that answers it is signed, where signing is required too."""
     with served(program, 'required', '--config', GUEST) as share:
@@ -218,7 +245,7 @@ def words_that_do_not_go_together_are_named(program):
 
 TESTS = (who_signs_is_answered_signed, who_does_not_sign_is_refused_where_that_is_required,
          no_changed_request_changes_a_file, no_other_signature_is_taken, each_request_of_a_chain_is_checked,
-         guests_come_in_unsigned, without_signing_all_is_as_ever, a_recording_has_the_keys,
+         who_is_gone_is_told_so_signed, guests_come_in_unsigned, without_signing_all_is_as_ever, a_recording_has_the_keys,
          words_that_do_not_go_together_are_named)
 
 

@@ -50,6 +50,11 @@ def session_setup(message_id, token=b'a', session_id=0, previous=0):
     return frame(header(1, message_id, session_id=session_id) + body)
 
 
+def logoff(message_id, session_id):
+    """A frame of a LOGOFF."""
+    return frame(header(2, message_id, session_id=session_id) + struct.pack('<HH', 4, 0))
+
+
 def tree_connect(message_id, session_id, path='\\\\s\\data'):
     """A frame of a TREE_CONNECT in a session."""
     units = path.encode('utf-16-le')

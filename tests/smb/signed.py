@@ -62,17 +62,17 @@ class SigningClient(Client):
     """A client that logs in by a password, and signs what it sends by the key of its session."""
     session, key, negotiated, entered = 0, b'', b'', b''
 
-    def logs_in(self, user='ann', nt_hash=ntlm.PASSWORD_HASH, mode=1, previous=0):
-        """Whether it comes in by two messages, 1 and 2, each of this SecurityMode."""
+    def logs_in(self, user='ann', nt_hash=ntlm.PASSWORD_HASH, mode=1, previous=0, begin=1):
+        """Whether it comes in by two messages, 1 and 2 or those from another number on, each of this SecurityMode."""
         def with_mode(setup):
             return setup[:4 + SETUP_MODE_AT] + bytes([mode]) + setup[4 + SETUP_MODE_AT + 1:]
 
         nt_hash = bytes.fromhex(nt_hash)
-        first = self.send(with_mode(session_setup(1, ntlm.NEGOTIATE, previous=previous))).reply()
+        first = self.send(with_mode(session_setup(begin, ntlm.NEGOTIATE, previous=previous))).reply()
         self.session = struct.unpack_from('<Q', first, 40)[0]
         challenge = first[first.index(ntlm.CHALLENGE) + 24:][:8]
         response = ntlm.response_to(challenge, user, nt_hash)
-        asked = session_setup(2, ntlm.authenticate(user, response), self.session, previous)
+        asked = session_setup(begin + 1, ntlm.authenticate(user, response), self.session, previous)
         self.entered = self.send(with_mode(asked)).reply()
         self.key = ntlm.session_key(user, nt_hash, response)
         return status_of(self.entered) == 0

@@ -39,6 +39,7 @@ agreed = record {
   payload_came = true;
   dialect = Some Smb202;
   window = record { usable = 0 ∷ 1 ∷ []; next = 2 };
+  keys = [];
 }
 
 -- a payload is performed or ends its connection, and just one of both

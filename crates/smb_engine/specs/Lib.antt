@@ -1,4 +1,5 @@
 pub mod Output
+pub mod Keys
 pub mod State
 pub mod Stream
 pub mod Run

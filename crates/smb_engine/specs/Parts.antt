@@ -1,6 +1,6 @@
 -- For the proofs; nothing here need be believed.
 -- Parts of the definitions that the proofs and private functions speak of.
-use Rattle.std.specs.Prelude.{ℕ, Bool, true, ◌&&◌, ◌==◌, not, nat_lt, List, [], ◌∷◌, ◌++◌, filter, map, replicate, Option, Some, None, is_none, is_some, if◌then◌else◌, slice_get, ◌+◌, ◌*◌, ◌≤◌, length, ◌≡◌, take, drop, false, suc}
+use Rattle.std.specs.Prelude.{ℕ, Bool, true, ◌&&◌, ◌||◌, ◌==◌, not, nat_lt, List, [], ◌∷◌, ◌++◌, filter, map, replicate, Option, Some, None, is_none, is_some, if◌then◌else◌, slice_get, ◌+◌, ◌*◌, ◌≤◌, length, ◌≡◌, take, drop, false, suc}
 use Rattle.std.specs.Option.{option_map_or, option_map}
 use Rattle.smb_wire.specs.Limits.{longest_payload, most_requests, longest_response}
 use Rattle.smb_wire.specs.Commands.{code_of}
@@ -12,17 +12,21 @@ use Rattle.smb_session.specs.Window.{WindowState, contains, without_ids, credits
 use Rattle.smb_request.specs.Charge.{charge_of}
 use Rattle.smb_request.specs.Context.{first_context}
 use Rattle.smb_request.specs.State.{ServerState}
-use Rattle.smb_request.specs.Request.{response_key}
+use Rattle.smb_request.specs.declared.context.HeaderIds.{HeaderIds}
+use Rattle.smb_request.specs.Request.{response_key, is_set_up}
 use Rattle.smb_request.specs.Response.{ResponseState, Performed}
 use Rattle.smb_engine.specs.declared.connection.Connection.{Connection}
 use Rattle.smb_engine.specs.declared.fault.ServeFault.{ServeFault}
 use Rattle.smb_engine.specs.declared.fault.ServeFault.TheVariants.{BadEvent, TooManyConnections, NoMemory, BadConfig}
+use Rattle.smb_engine.specs.declared.session_keys.SessionKey.{SessionKey}
+use Rattle.smb_engine.specs.Keys.{kept_key, with_key}
 use Rattle.smb_engine.specs.State.{ShareState, ended, StreamState, is_open}
 use Rattle.smb_engine.specs.Output.{reply_frame, end_of, Output, frame_to, output_bytes}
 use Rattle.smb_signing.specs.declared.key.Key.{Key}
 use Rattle.smb_head.specs.Replies.{Reply, joined_replies}
-use Rattle.smb_head.specs.Chains.{is_related}
+use Rattle.smb_head.specs.Chains.{is_related, is_signed}
 use Rattle.smb_wire.specs.NtStatus.{status_code}
+use Rattle.smb_wire.specs.declared.nt_status.NtStatus.{NtStatus}
 use Rattle.smb_body.specs.Smb1.{smb1_of}
 use Rattle.smb_body.specs.declared.smb1.Smb1Dialects.{Smb1Dialects}
 use Rattle.std.specs.List.{find, fold, concat, AllByRecursion}
@@ -85,16 +89,31 @@ with_stream connection stream streams = set_value (is_at (nat_cmp connection)) s
 abbrev pub without_stream : ℕ → List (ℕ × StreamState) → List (ℕ × StreamState)
 without_stream connection streams = remove_entry (is_at (nat_cmp connection)) streams
 
+-- the key of a response with these ids: its own, or where there is none, and the request is signed, the one that is
+-- kept of its session
+abbrev pub key_or_kept : List SessionKey → List ℕ → HeaderIds → Option Key → Option Key
+key_or_kept keys request ids own = if is_some own || not (is_signed request) then own else kept_key keys ids.session_id
+
+-- the keys behind a response with these ids and this status that is signed by a key, if by one
+abbrev pub keys_behind : List SessionKey → List ℕ → HeaderIds → NtStatus → Option Key → List SessionKey
+keys_behind keys request ids status key =
+    option_map_or (λ key. if is_set_up (header_of request).command.0 status then with_key keys ids.session_id key else keys) key keys
+
 -- a chain after a request that was performed: its response grants credits and joins the replies (3.3.1.2); without a
 -- response neither changes
 abbrev pub replied : {S : Type 0} → ℕ → ChainState S → List ℕ → Performed S → ChainState S
 replied connection chain request p = option_map_or
     (λ response.
     let credits = credits_granted chain.connection.window (header_of request).credits in
-    let key = response_key chain.server p.server connection chain.context request response.ids response.status in
+    let own = response_key chain.server p.server connection chain.context request response.ids response.status in
+    let key = key_or_kept chain.connection.keys request response.ids own in
     record {
       server = p.server;
-      connection = record chain.connection { dialect = p.dialect; window = with_more chain.connection.window credits };
+      connection = record chain.connection {
+        dialect = p.dialect;
+        window = with_more chain.connection.window credits;
+        keys = keys_behind chain.connection.keys request response.ids response.status key;
+      };
       context = p.context;
       replies = chain.replies ++ reply_to request response key credits ∷ [];
     })

@@ -18,7 +18,7 @@ use Rattle.smb_session.specs.Numbers.{contains}
 use Rattle.smb_frame.specs.Reading.{payloads, rest, fault_of}
 use Rattle.smb_head.specs.Headers.{header_of}
 use Rattle.smb_head.specs.declared.fault.HeadFault.{HeadFault}
-use Rattle.smb_head.specs.Chains.{chain_of, chain_fault, is_related}
+use Rattle.smb_head.specs.Chains.{chain_of, chain_fault, is_related, is_signed}
 use Rattle.smb_head.specs.Replies.{Reply, joined_replies}
 use Rattle.smb_body.specs.Smb1.{smb1_of}
 use Rattle.smb_body.specs.declared.smb1.Smb1Dialects.{Smb1Dialects}
@@ -33,11 +33,12 @@ use Rattle.smb_request.specs.declared.smb1.Smb1Answer.{Smb1Answer}
 use Rattle.smb_request.specs.Context.{first_context}
 use Rattle.smb_request.specs.State.{ServerState}
 use Rattle.smb_request.specs.Response.{ResponseState}
-use Rattle.smb_request.specs.Request.{performed, response_key}
+use Rattle.smb_request.specs.Request.{performed, response_key, is_set_up}
 use Rattle.smb_engine.specs.declared.arrival.Arrival.{Arrival}
 use Rattle.smb_engine.specs.declared.connection.Connection.{Connection}
 use Rattle.smb_engine.specs.declared.fault.ServeFault.{ServeFault}
 use Rattle.smb_engine.specs.declared.fault.ServeFault.TheVariants.{TooManyConnections, BadEvent}
+use Rattle.smb_engine.specs.Keys.{kept_key, with_key}
 use Rattle.smb_engine.specs.State.{StreamState, ShareState, stream_of, opened, ended}
 use Rattle.smb_peers.specs.declared.ending.Ending.{Ending}
 use Rattle.smb_peers.specs.declared.ending.Ending.TheVariants.{Chain, NegotiateAlone, NegotiateAgain, MessageIdNotInWindow, MessageIdTwice, Smb1Misformed, Smb1Late}
@@ -68,7 +69,8 @@ pub record ChainState (S : Type 0) : Type 0 where
 
 module _ {S : Type 0} (authenticator : Meaning S) (arrival : Arrival) where
   -- one request of a chain on a connection (3.3.5.2): its response grants credits and joins the replies (3.3.1.2);
-  -- without a response neither changes. The reply's header has the request's numbers, the flag SERVER_TO_REDIR (1),
+  -- without a response neither changes. It is signed by the key of the session that the request acts under, also where
+  -- that has ended, or of the one that it lets in, whose key the connection keeps (3.3.4.1.1). The reply's header has the request's numbers, the flag SERVER_TO_REDIR (1),
   -- RELATED_OPERATIONS (4) where the request had it, SIGNED (8) where the reply is signed, and the credits that are
   -- granted (3.3.4.1)
   unfoldable pub one_performed : ChainState S → List ℕ → ChainState S
@@ -79,8 +81,10 @@ module _ {S : Type 0} (authenticator : Meaning S) (arrival : Arrival) where
       option_map_or
       (λ (response : ResponseState).
       let credits = credits_granted before.window asked.credits in
-      let key = response_key
+      let own = response_key
       chain.server p.server arrival.connection_id chain.context request response.ids response.status in
+      let key = if is_some own || not (is_signed request) then own else kept_key before.keys response.ids.session_id in
+      let lets_in = is_set_up asked.command.0 response.status in
       let reply : Reply = record {
         header = record {
           credit_charge = asked.credit_charge;
@@ -100,7 +104,11 @@ module _ {S : Type 0} (authenticator : Meaning S) (arrival : Arrival) where
       } in
       record {
         server = p.server;
-        connection = record before { dialect = p.dialect; window = with_more before.window credits };
+        connection = record before {
+          dialect = p.dialect;
+          window = with_more before.window credits;
+          keys = option_map_or (λ key. if lets_in then with_key before.keys response.ids.session_id key else before.keys) key before.keys;
+        };
         context = p.context;
         replies = chain.replies ++ reply ∷ [];
       })
@@ -205,7 +213,7 @@ pub record Step (S : Type 0) : Type 0 where
 
 module _ {S : Type 0} (authenticator : Meaning S) (arrival : Arrival) where
   -- an SMB_COM_NEGOTIATE that lists some dialects: it is answered by an SMB2 NEGOTIATE response to MessageId 0, which
-  -- tells one credit, and the client goes on with MessageId 1; without a dialect of the share it ends the connection
+  -- grants one credit, and the client goes on with MessageId 1; without a dialect of the share it ends the connection
   -- (3.3.5.3.1, 3.3.5.3.2)
   unfoldable pub smb1_step : ServerState S → Connection → Smb1Dialects → Step S
   smb1_step server connection dialects =

@@ -38,7 +38,7 @@ pub record StepsOver {S : Type 0} (m : Meaning S) (hears : Output → List Heard
   pub short : AreShort (payload_steps m arrival server₀ connection₀ (payloads longest_payload held₀)).outputs
 
 -- the payloads of some held bytes were performed: all of them, and less than a whole frame is held, or up to one that
--- ended the connection; and so many requests, as far as a state tells
+-- ended the connection; and so many requests, as far as a state says
 pub record AreTaken {S : Type 0} (m : Meaning S) (hears : Output → List Heard) (arrival : Arrival)
     (server₀ : ServerState S) (connection₀ : Connection) (heard₀ : List Heard) (held₀ : List ℕ)
     (server : ServerState S) (connection : Connection) (heard : List Heard) (held : List ℕ) (stays_open : Bool) (done : ℕ) : Type 0 where

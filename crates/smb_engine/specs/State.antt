@@ -6,7 +6,8 @@ use Rattle.std.specs.Ordering.{nat_cmp}
 use Rattle.smb_session.specs.Numbers.{contains, with_number}
 use Rattle.smb_session.specs.Table.{TableState}
 use Rattle.smb_request.specs.Settings.{Settings}
-use Rattle.smb_request.specs.State.{ServerState, new_server, connection_ended}
+use Rattle.smb_tree.specs.Content.{Content, new_content_within}
+use Rattle.smb_request.specs.State.{ServerState, server_over, connection_ended}
 use Rattle.smb_engine.specs.declared.connection.Connection.{Connection}
 
 -- a connection with its stream: in the definition all bytes that were received, in the code those that are unread
@@ -23,14 +24,19 @@ pub record ShareState (S : Type 0) : Type 0 where
   pub next : ℕ
   pub most_connections : ℕ
 
--- a new share: no connection, and the first will be 1
-abbrev pub new_share : {S : Type 0} → Settings → S → ShareState S
-new_share settings authenticator = record {
-  server = new_server settings authenticator;
+-- a share over the files of a tree: no connection, and the first will be 1
+abbrev pub share_over : {S : Type 0} → Settings → S → Content → ShareState S
+share_over settings authenticator tree = record {
+  server = server_over settings authenticator tree;
   streams = [];
   next = 1;
   most_connections = settings.limits.connections;
 }
+
+-- a new share: of files the root alone
+abbrev pub new_share : {S : Type 0} → Settings → S → ShareState S
+new_share settings authenticator =
+    share_over settings authenticator (new_content_within settings.limits settings.created settings.capacity)
 
 -- the stream of a connection's number
 abbrev pub stream_of : ℕ → List (ℕ × StreamState) → Option StreamState
@@ -40,11 +46,12 @@ stream_of connection streams = lookup (is_at (nat_cmp connection)) streams
 abbrev pub is_open : {S : Type 0} → ShareState S → ℕ → Bool
 is_open s connection = is_some (stream_of connection s.streams)
 
--- the stream of a new connection: nothing was received, no dialect is negotiated, and the window is {0} (3.3.5.1)
+-- the stream of a new connection: nothing was received, no dialect is negotiated, the window is {0}, and no session
+-- has a key (3.3.5.1)
 abbrev pub new_stream : StreamState
 new_stream = record {
   received = [];
-  connection = record { payload_came = false; dialect = None; window = record { usable = 0 ∷ []; next = 1 } };
+  connection = record { payload_came = false; dialect = None; window = record { usable = 0 ∷ []; next = 1 }; keys = [] };
 }
 
 -- the share with one connection more, which may begin sessions from now on (3.3.5.1)

@@ -57,7 +57,7 @@ fn put_runs(
     }
 }
 
-/// Takes the MessageIds of a payload's requests from the window; or tells the rule by which the payload ends the
+/// Takes the MessageIds of a payload's requests from the window; or returns the rule by which the payload ends the
 /// connection, which is then as it was.
 pub(crate) fn admit(connection: &mut Connection, chain: &Chain<'_>) -> Result<(), Ending>
     requires { length chain.now ≤ 16 }

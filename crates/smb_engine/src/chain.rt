@@ -83,7 +83,7 @@ struct ChainProgress {
     writer: ReplyWriter,
 }
 
-/// Performs one request of a chain, its reply written once, behind the others. An error tells whether the
+/// Performs one request of a chain, its reply written once, behind the others. An error says whether the
 /// request was performed.
 #[tactic(auto, unfolding(crate::specs::Run::one_performed))]
 fn perform_one<A: Authenticator + Drop, T: Tree + Drop, O: Opens + Drop, W: Observer>(
@@ -160,7 +160,9 @@ fn perform_one<A: Authenticator + Drop, T: Tree + Drop, O: Opens + Drop, W: Obse
         Some((answered, credits)),
         observer,
     );
-    let key = server.response_key(arrival.connection_id, signing, header, &answered);
+    let own = server.response_key(arrival.connection_id, signing, header, &answered);
+    let key = connection.keys.own_or_kept(own, header, answered.ids);
+    connection.keys.keep_of(key, header, &answered);
     let header = reply_header(header, answered, key.is_some(), credits);
     progress.writer.close_reply(reply, &header, key, out);
     Ok(())
@@ -194,7 +196,7 @@ fn end_frame(start: usize, out: &mut Vec<u8>)
 }
 
 /// Performs a payload that is a chain, adds the frame of its replies to `out`, where there are any, and tells the
-/// number of its requests; None where it ends the connection. At most so many requests are performed; an error tells how
+/// number of its requests; None where it ends the connection. At most so many requests are performed; an error says how
 /// many. Where the payload is not performed whole `out` is as it was.
 #[tactic(auto, unfolding(crate::specs::Run::chain_step))]
 fn chain_payload<A: Authenticator + Drop, T: Tree + Drop, O: Opens + Drop, W: Observer>(
@@ -300,7 +302,7 @@ fn frame_smb1<A: Authenticator + Drop, T: Tree + Drop, O: Opens + Drop>(
     true
 }
 
-/// Answers an SMB_COM_NEGOTIATE that lists these dialects, and tells how many requests it is; None where it ends the
+/// Answers an SMB_COM_NEGOTIATE that lists these dialects, and returns how many requests it is; None where it ends the
 /// connection. Where it is not answered `out` is as it was.
 #[tactic(auto, unfolding(crate::specs::Run::smb1_step))]
 fn first_payload<A: Authenticator + Drop, T: Tree + Drop, O: Opens + Drop, W: Observer>(
@@ -338,8 +340,8 @@ fn first_payload<A: Authenticator + Drop, T: Tree + Drop, O: Opens + Drop, W: Ob
     Ok(Some(1))
 }
 
-/// Performs a payload, adds the frame of its replies to `out`, where there are any, and tells the number of its
-/// requests; None where it ends the connection. Of a chain at most so many requests are performed; an error tells how
+/// Performs a payload, adds the frame of its replies to `out`, where there are any, and returns the number of its
+/// requests; None where it ends the connection. Of a chain at most so many requests are performed; an error says how
 /// many. Where the payload is not performed whole `out` is as it was.
 #[tactic(auto, unfolding(crate::specs::Run::payload_step))]
 pub(crate) fn perform_payload<

@@ -8,6 +8,7 @@ ghost use Rattle.std.specs.Ordering.{nat_cmp};
 ghost use Rattle.smb_request.specs.State.{connection_added};
 ghost use Rattle.smb_engine.specs.State.{new_stream};
 
+use super::session_keys::SessionKeys;
 use smb_frame::FrameBuffer;
 use smb_opens::Opens;
 use smb_request::Server;
@@ -19,12 +20,13 @@ use std::alloc::{AllocError, Global};
 use std::collections::BTreeMap;
 use std::marker::Model;
 
-/// What a connection has agreed on, and which MessageIds its client may use.
+/// What a connection has agreed on, which MessageIds its client may use, and the keys of its sessions.
 #[derive(Drop)]
 pub struct Connection {
     pub(crate) payload_came: bool,
     pub(crate) dialect: Option<Dialect>,
     pub(crate) window: Window,
+    pub(crate) keys: SessionKeys,
 }
 
 /// A connection with the unread bytes of its stream.
@@ -56,6 +58,7 @@ pub(crate) fn new_stream(alloc: Global) -> ConnectionStream
             payload_came: false,
             dialect: None,
             window: Window::new(0),
+            keys: SessionKeys::new(),
         },
     }
 }

@@ -58,6 +58,7 @@ mod laws;
 mod making;
 mod output;
 mod reporting;
+mod session_keys;
 mod share;
 mod stream;
 

@@ -3,7 +3,8 @@
 ghost use Rattle.std.specs.Prelude.{◌≡◌, [], true, OnOk, IfOk, IfErr, if◌then◌else◌};
 ghost use Rattle.smb_tree.specs.Content.{new_content, new_content_within};
 ghost use Rattle.smb_request.specs.Settings.{settings_of, settings_within, is_lawful};
-ghost use Rattle.smb_engine.specs.State.{new_share};
+ghost use Rattle.smb_opens.specs.Good.{UnmarkedTree};
+ghost use Rattle.smb_engine.specs.State.{new_share, share_over};
 
 use super::fault::ServeFault;
 use super::share::Share;
@@ -49,7 +50,7 @@ impl<A: Authenticator + Drop> Share<A, NodeTree, HandleTable> {
             return Err(ServeFault::NoMemory { done: 0 });
         };
         let opens = HandleTable::new(alloc);
-        Share::made(alloc, limits, config, authenticator, tree, opens)
+        Share::within(alloc, limits, config, authenticator, tree, opens)
     }
 }
 
@@ -91,6 +92,27 @@ impl<A: Authenticator + Drop, T: Tree + Drop, O: Opens + Drop> Share<A, T, O> {
         ensures state { IfOk result (λ share. share ≡ new_share (settings_within limits config) authenticator) }
         ensures err { IfErr result (λ fault. fault ≡ (if is_lawful (settings_within limits config) then ServeFault.NoMemory 0 else ServeFault.BadConfig)) }
     {
+        Share::over(alloc, limits, config, authenticator, tree, opens)
+    }
+
+    /// [`within`](Self::within) over a tree that holds files, of which none is marked; it is made under these limits, with
+    /// the room of the configuration.
+    pub fn over(
+        alloc: Global,
+        limits: Limits,
+        config: Config,
+        authenticator: A,
+        tree: T,
+        opens: O,
+    ) -> Result<Self, ServeFault>
+        requires tree { UnmarkedTree (T.content tree) }
+        requires room { (T.content tree).capacity ≡ config.capacity }
+        requires limits { (T.content tree).limits ≡ limits }
+        requires opens { O.content opens ≡ [] }
+        ensures lawful { OnOk result (is_lawful (settings_within limits config) ≡ true) }
+        ensures state { IfOk result (λ share. share ≡ share_over (settings_within limits config) authenticator (T.content tree)) }
+        ensures err { IfErr result (λ fault. fault ≡ (if is_lawful (settings_within limits config) then ServeFault.NoMemory 0 else ServeFault.BadConfig)) }
+    {
         if !config.is_lawful_within(limits) {
             return Err(ServeFault::BadConfig);
         }
@@ -107,12 +129,14 @@ impl<A: Authenticator + Drop, T: Tree + Drop, O: Opens + Drop> Share<A, T, O> {
         opens: O,
     ) -> Result<Self, ServeFault>
         requires lawful { is_lawful (settings_within limits config) ≡ true }
-        requires tree { T.content tree ≡ new_content_within limits config.created config.capacity }
+        requires tree { UnmarkedTree (T.content tree) }
+        requires room { (T.content tree).capacity ≡ config.capacity }
+        requires limits { (T.content tree).limits ≡ limits }
         requires opens { O.content opens ≡ [] }
-        ensures state { IfOk result (λ share. share ≡ new_share (settings_within limits config) authenticator) }
+        ensures state { IfOk result (λ share. share ≡ share_over (settings_within limits config) authenticator (T.content tree)) }
         ensures err { IfErr result (λ fault. fault ≡ ServeFault.NoMemory 0) }
     {
-        let Ok(server) = Server::within(alloc, limits, config, authenticator, tree, opens) else {
+        let Ok(server) = Server::over(alloc, limits, config, authenticator, tree, opens) else {
             return Err(ServeFault::NoMemory { done: 0 });
         };
         Ok(Share {

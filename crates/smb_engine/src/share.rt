@@ -109,7 +109,7 @@ impl<A: Authenticator + Drop, T: Tree + Drop, O: Opens + Drop> Share<A, T, O> {
     }
 
     /// Takes a piece of a connection's stream, and puts out the replies. On a connection that is not open it is
-    /// passed over, and there is no error. An error tells how many requests were performed, those of a piece that has
+    /// passed over, and there is no error. An error says how many requests were performed, those of a piece that has
     /// `most` or more at most so many; the connection has ended after them.
     #[tactic(auto, unfolding(crate::specs::Run::bytes_step))]
     fn take<K: Sink, W: Observer>(
@@ -395,7 +395,7 @@ impl<A: Authenticator + Drop, T: Tree + Drop, O: Opens + Drop> Share<A, T, O> {
 
     /// Takes events in order, up to one that is refused, and adds the answers.
     ///
-    /// A fault tells the place of the event that it stopped at, and its connection; the events before it were
+    /// A fault says the place of the event that it stopped at, and its connection; the events before it were
     /// performed, and their answers added. A refused event ([`ServeFault::BadEvent`],
     /// [`ServeFault::TooManyConnections`]) changes nothing. After [`ServeFault::NoMemory`] the first `done` requests of
     /// the event were performed, without a reply, and then its connection has ended; an opening changed nothing. Memory

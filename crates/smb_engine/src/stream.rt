@@ -27,8 +27,8 @@ use smb_session::Authenticator;
 use smb_tree::Tree;
 use smb_wire::limits::LONGEST_PAYLOAD;
 
-/// Performs a payload, puts out the frame of its replies, where there are any, and tells the number of its requests;
-/// None where it ends the connection. Of a chain at most so many requests are performed; an error tells how many, and
+/// Performs a payload, puts out the frame of its replies, where there are any, and returns the number of its requests;
+/// None where it ends the connection. Of a chain at most so many requests are performed; an error says how many, and
 /// puts nothing out.
 fn put_payload<A: Authenticator + Drop, T: Tree + Drop, O: Opens + Drop, K: Sink, W: Observer>(
     server: &mut Server<A, T, O>,
@@ -75,7 +75,7 @@ fn put_payload<A: Authenticator + Drop, T: Tree + Drop, O: Opens + Drop, K: Sink
 }
 
 /// Performs the payloads of the whole frames that are held, in order, and puts out their replies, where these are fewer
-/// requests than `most`; else the first `most` of them. Ok tells whether the connection stays open and how many requests
+/// requests than `most`; else the first `most` of them. Ok says whether the connection stays open and how many requests
 /// were performed; an error, the latter.
 fn take_payloads<A: Authenticator + Drop, T: Tree + Drop, O: Opens + Drop, K: Sink, W: Observer>(
     server: &mut Server<A, T, O>,
@@ -133,7 +133,7 @@ fn take_payloads<A: Authenticator + Drop, T: Tree + Drop, O: Opens + Drop, K: Si
 }
 
 /// Performs the payloads of the whole frames in some bytes of a stream, in order, each from where it is, and puts out their
-/// replies, as [`take_payloads`] does. Ok tells how many bytes the frames have, besides.
+/// replies, as [`take_payloads`] does. Ok says how many bytes the frames have, besides.
 fn take_frames<A: Authenticator + Drop, T: Tree + Drop, O: Opens + Drop, K: Sink, W: Observer>(
     server: &mut Server<A, T, O>,
     arrival: Arrival,
@@ -359,7 +359,7 @@ fn stays_open<W: Observer>(
 }
 
 /// Takes a piece of a connection's stream, and puts out what answers it, where it has fewer requests than `most`; else the
-/// first `most` of them are performed. Ok tells whether the connection stays open; an error, how many requests were performed.
+/// first `most` of them are performed. Ok says whether the connection stays open; an error, how many requests were performed.
 ///
 /// After an error nothing was put out. The connection is to be given up then, and where it doesn't stay open.
 pub(crate) fn take_piece<

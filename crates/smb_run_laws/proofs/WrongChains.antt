@@ -49,6 +49,7 @@ connection = record {
   payload_came = true;
   dialect = Some Smb202;
   window = record { usable = 0 ∷ 1 ∷ []; next = 2 };
+  keys = [];
 }
 
 abbrev Plays : Type 0 → Type 0

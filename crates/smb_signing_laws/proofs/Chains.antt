@@ -17,7 +17,7 @@ use Rattle.smb_request.specs.State.{ServerState}
 use Rattle.smb_engine.specs.declared.arrival.Arrival.{Arrival}
 use Rattle.smb_engine.specs.declared.connection.Connection.{Connection}
 use Rattle.smb_engine.specs.Output.{reply_frame}
-use Rattle.smb_engine.specs.Parts.{reply_to, replied, chain_begun, all_performed, framed_chain, refused_step}
+use Rattle.smb_engine.specs.Parts.{reply_to, replied, key_or_kept, chain_begun, all_performed, framed_chain, refused_step}
 use Rattle.smb_engine.specs.Run.{PerformedRequest, ChainState, one_performed, requests_of_chain, admitted, Step, chain_step}
 use Rattle.smb_engine.proofs.Chains.{server-one_performed}
 use Rattle.smb_signing_laws.specs.Requests.{signing_under, is_cancel}
@@ -76,8 +76,15 @@ module _ {S : Type 0} (m : Meaning S) (arrival : Arrival) where
       credits = credits_granted chain.connection.window (header_of request).credits;
     }
 
+    abbrev own_of : ResponseState → Option Key
+    own_of response = response_key chain.server ran.server n chain.context request response.ids response.status
+
     abbrev key_of : ResponseState → Option Key
-    key_of response = response_key chain.server ran.server n chain.context request response.ids response.status
+    key_of response = key_or_kept chain.connection.keys request response.ids (own_of response)
+
+    -- a response's own key goes before one that is kept
+    own_is : (response : ResponseState) (key : Key) → own_of response ≡ Some key → key_of response ≡ Some key
+    own_is response key own = rw own refl
 
     abbrev reply_of : ResponseState → Reply
     reply_of response = reply_to request response (key_of response) (credits_granted chain.connection.window (header_of request).credits)
@@ -88,14 +95,14 @@ module _ {S : Type 0} (m : Meaning S) (arrival : Arrival) where
     its_key : (response : ResponseState) (key : Key) → IsKeyOfItsSession n (came ran.server) request key → key_of response ≡ Some key
     its_key response key its =
         let signing = its.1.0 in
-        own_key (signing_under chain.server n chain.context request) (signing_of ran.server.sessions.table n response.ids.session_id) (is_signed request) (is_set_up (header_of request).command.0 response.status) signing its.0 its.1.1 ∙ ap (λ (k : Key). Some k) its.1.2
+        own_is response key (own_key (signing_under chain.server n chain.context request) (signing_of ran.server.sessions.table n response.ids.session_id) (is_signed request) (is_set_up (header_of request).command.0 response.status) signing its.0 its.1.1 ∙ ap (λ (k : Key). Some k) its.1.2)
 
     made_key : (response : ResponseState) → ran.response ≡ Some response → (key : Key) → IsKeyOfNewSession n (came ran.server) request key → key_of response ≡ Some key
     made_key response e key made =
         let new : (is_set_up (header_of request).command.0 response.status ≡ true) × ((signing : Signing) × (signing_of ran.server.sessions.table n response.ids.session_id ≡ Some signing) × (signing.key ≡ key)) =
         rw e at made.1 in
         let signing = new.1.0 in
-        new_key (signing_under chain.server n chain.context request) (signing_of ran.server.sessions.table n response.ids.session_id) (is_signed request) (is_set_up (header_of request).command.0 response.status) signing made.0 new.0 new.1.1 ∙ ap (λ (k : Key). Some k) new.1.2
+        own_is response key (new_key (signing_under chain.server n chain.context request) (signing_of ran.server.sessions.table n response.ids.session_id) (is_signed request) (is_set_up (header_of request).command.0 response.status) signing made.0 new.0 new.1.1 ∙ ap (λ (k : Key). Some k) new.1.2)
 
     must_sign : (response : ResponseState) → ran.response ≡ Some response → (key : Key) → MustSign n (came ran.server) request key → key_of response ≡ Some key
     must_sign response e key (inl its) = its_key response key its

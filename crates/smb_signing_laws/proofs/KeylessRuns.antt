@@ -1,5 +1,5 @@
 -- Over a chain and a run: without keys there are none.
-use Rattle.std.proofs.Common.{◌≡◌, ◌&&◌, ◌==◌, ℕ, Bool, true, false, not, if◌then◌else◌, filter, List, [], ◌∷◌, ◌++◌, Option, None, Some, is_some, refl, subst, sym}
+use Rattle.std.proofs.Common.{◌≡◌, ◌&&◌, ◌||◌, ◌==◌, ℕ, Bool, true, false, not, if◌then◌else◌, filter, List, [], ◌∷◌, ◌++◌, Option, None, Some, is_some, refl, subst, sym}
 use Rattle.std.specs.List.{AllByRecursion}
 use Rattle.std.specs.Option.{option_map}
 use Rattle.smb_head.specs.Headers.{header_of}
@@ -16,7 +16,11 @@ use Rattle.smb_request.specs.Response.{Performed, ResponseState}
 use Rattle.smb_request.specs.State.{ServerState, connection_added, connection_ended}
 use Rattle.smb_peers.specs.Event.{EventText}
 use Rattle.smb_engine.specs.declared.arrival.Arrival.{Arrival}
-use Rattle.smb_engine.specs.Parts.{replied, all_performed}
+use Rattle.smb_signing.specs.declared.key.Key.{Key}
+use Rattle.smb_request.specs.declared.context.HeaderIds.{HeaderIds}
+use Rattle.smb_engine.specs.declared.session_keys.SessionKey.{SessionKey}
+use Rattle.smb_engine.specs.Keys.{kept_key}
+use Rattle.smb_engine.specs.Parts.{replied, all_performed, key_or_kept}
 use Rattle.smb_engine.specs.Run.{PerformedRequest, ChainState, one_performed, run}
 use Rattle.smb_engine.specs.State.{ShareState}
 use Rattle.smb_engine.proofs.Chains.{server-one_performed}
@@ -52,6 +56,15 @@ no_key_at : (own new : Option Signing) (flag set_up : Bool) → own ≡ None →
 no_key_at own new flag true e f = rw (e, f) refl
 no_key_at own new flag false e f = rw e refl
 
+unkept_by : (flag : Bool) (keys : List SessionKey) (own : Option Key) (session : ℕ) → keys ≡ [] → own ≡ None →
+    (if is_some own || not flag then own else kept_key keys session) ≡ None
+unkept_by true keys own session k o = rw (o, k) refl
+unkept_by false keys own session k o = rw o refl
+
+-- nor is there one that is kept
+unkept_at : (keys : List SessionKey) (request : List ℕ) (ids : HeaderIds) (own : Option Key) → keys ≡ [] → own ≡ None → key_or_kept keys request ids own ≡ None
+unkept_at keys request ids own k o = unkept_by (is_signed request) keys own ids.session_id k o
+
 all_and : {X : Type 0} (P : X → Type 0) (xs : List X) (x : X) → AllByRecursion P xs → P x → AllByRecursion P (xs ++ x ∷ [])
 all_and P [] x all is = (is, tt)
 all_and P (y ∷ xs) x all is = (all.0, all_and P xs x all.1 is)
@@ -64,8 +77,11 @@ module _ {S : Type 0} (m : Meaning S) (gives : GivesNoKeys m) where
         subst (λ (after : ServerState S). HasNoKeys after) (sym (server-one_performed m arrival chain request))
         (keyless_kept m arrival.connection_id arrival.moment chain.server chain.connection.dialect chain.context request none gives)
 
+    abbrev Unsigned : ChainState S → Type 0
+    Unsigned chain = AllByRecursion HasNoKey chain.replies × (chain.connection.keys ≡ [])
+
     replied_keyless : (chain : ChainState S) (request : List ℕ) (p : Performed S) (response : Option ResponseState) → p.response ≡ response → HasNoKeys chain.server → HasNoKeys p.server →
-        AllByRecursion HasNoKey chain.replies → AllByRecursion HasNoKey (replied arrival.connection_id chain request p).replies
+        Unsigned chain → Unsigned (replied arrival.connection_id chain request p)
     replied_keyless chain request p None e none gone all = rw e all
     replied_keyless chain request p (Some response) e none gone all =
         let n = arrival.connection_id in
@@ -73,18 +89,24 @@ module _ {S : Type 0} (m : Meaning S) (gives : GivesNoKeys m) where
         no_key_at (signing_under chain.server n chain.context request) (signing_of p.server.sessions.table n response.ids.session_id) (is_signed request) (is_set_up (header_of request).command.0 response.status)
         (no_signing chain.server.sessions.table n (request_ids chain.context request).session_id none)
         (no_signing p.server.sessions.table n response.ids.session_id gone) in
-        rw e (all_and HasNoKey chain.replies _ all key)
+        let kept : key_or_kept chain.connection.keys request response.ids (response_key chain.server p.server n chain.context request response.ids response.status) ≡ None =
+        unkept_at chain.connection.keys request response.ids _ all.1 key in
+        rw e (all_and HasNoKey chain.replies _ all.0 kept, rw kept all.1)
 
-    pub all_keyless : (chain : ChainState S) (requests : List (List ℕ)) → HasNoKeys chain.server → AllByRecursion HasNoKey chain.replies →
-        AllByRecursion HasNoKey (all_performed m arrival chain requests).replies
-    all_keyless chain [] none all = all
-    all_keyless chain (request ∷ requests) none all =
+    chain_keyless : (chain : ChainState S) (requests : List (List ℕ)) → HasNoKeys chain.server → Unsigned chain →
+        Unsigned (all_performed m arrival chain requests)
+    chain_keyless chain [] none all = all
+    chain_keyless chain (request ∷ requests) none all =
         let next = one_performed m arrival chain request in
         let ran = performed m arrival.connection_id arrival.moment chain.server chain.connection.dialect chain.context request in
         let gone : HasNoKeys ran.server = keyless_kept m arrival.connection_id arrival.moment chain.server chain.connection.dialect chain.context request none gives in
-        let more : AllByRecursion HasNoKey next.replies =
-        subst (λ (chain : ChainState S). AllByRecursion HasNoKey chain.replies) (sym (one_is m arrival chain request)) (replied_keyless chain request ran ran.response refl none gone all) in
-        all_keyless next requests (one_keyless chain request none) more
+        let more : Unsigned next =
+        subst (λ (chain : ChainState S). Unsigned chain) (sym (one_is m arrival chain request)) (replied_keyless chain request ran ran.response refl none gone all) in
+        chain_keyless next requests (one_keyless chain request none) more
+
+    pub all_keyless : (chain : ChainState S) (requests : List (List ℕ)) → HasNoKeys chain.server → chain.connection.keys ≡ [] → AllByRecursion HasNoKey chain.replies →
+        Unsigned (all_performed m arrival chain requests)
+    all_keyless chain requests none unkept all = chain_keyless chain requests none (all, unkept)
 
   -- A RUN
   abbrev Anyhow : ServerState S → ServerState S → Type 0

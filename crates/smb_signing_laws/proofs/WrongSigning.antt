@@ -239,7 +239,7 @@ abbrev arrival : Arrival
 arrival = record { connection_id = 1; moment = 0 }
 
 abbrev agreed : Connection
-agreed = record { payload_came = true; dialect = Some Smb202; window = record { usable = 0 ∷ []; next = 1 } }
+agreed = record { payload_came = true; dialect = Some Smb202; window = record { usable = 0 ∷ []; next = 1 }; keys = [] }
 
 -- the payload of a frame
 abbrev payload_in : List Output → List ℕ

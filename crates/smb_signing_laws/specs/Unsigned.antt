@@ -1,5 +1,5 @@
 -- Without keys all is as if there were no signing.
-use Rattle.std.specs.Prelude.{◌≡◌, ℕ, List, Option, None}
+use Rattle.std.specs.Prelude.{◌≡◌, ℕ, List, [], Option, None}
 use Rattle.std.specs.List.{AllByRecursion, fold}
 use Rattle.smb_wire.specs.declared.dialect.Dialect.{Dialect}
 use Rattle.smb_head.specs.Replies.{HasNoKey}
@@ -46,9 +46,10 @@ module _ {S : Type 0} (authenticator : Meaning S) where
       EachRequest authenticator (λ connection came. HasNoKeys came.before) s events
       × HasNoKeys (run authenticator s events).state.server
 
-  -- no reply of a chain has a key, so none is signed
+  -- no reply of a chain has a key, by which it would be signed, and its connection keeps none
   abbrev pub WithoutKeysNoReplyIsSigned : Type 0
   WithoutKeysNoReplyIsSigned =
       (arrival : Arrival) (chain : ChainState S) (requests : List (List ℕ)) → GivesNoKeys authenticator →
-      HasNoKeys chain.server → AllByRecursion HasNoKey chain.replies →
-      AllByRecursion HasNoKey (fold (one_performed authenticator arrival) chain requests).replies
+      HasNoKeys chain.server → chain.connection.keys ≡ [] → AllByRecursion HasNoKey chain.replies →
+      let done = fold (one_performed authenticator arrival) chain requests in
+      AllByRecursion HasNoKey done.replies × (done.connection.keys ≡ [])

@@ -1,6 +1,7 @@
 use Rattle.std.proofs.Common.{◌∙◌, None, Some, ap}
 use Rattle.smb_head.specs.declared.header.Header.{Header}
 use Rattle.smb_session.specs.Window.{credits_granted}
+use Rattle.smb_engine.specs.Parts.{key_or_kept}
 use Rattle.smb_engine.proofs.Written.{one_put}
 use Rattle.smb_engine.proofs.Observed.{report_grew, same_report, same_cancelled}
 use Rattle.smb_engine.proofs.chain.perform_one.Goals as goal
@@ -11,11 +12,12 @@ returns-clause-ok g c front before w o =
     let request = c.args.request.now in
     let place = c.in-Ok.ensures.place front before w o in
     one_put g.A.Authenticator.meaning c.args.arrival front before c.args.server.now c.args.connection.now c.args.progress.now.context request
-    c.in-Some.answered c.open_reply.new.out.items c.perform.new.out.items c.close_reply.new.out.items c.perform.new.self c.perform.new.dialect c.perform.new.context c.grant-credits.new.self c.grant-credits.result c.response_key-key.result c.reply_header-header.result c.close_reply.new.self
+    c.in-Some.answered c.open_reply.new.out.items c.perform.new.out.items c.close_reply.new.out.items c.perform.new.self c.perform.new.dialect c.perform.new.context c.grant-credits.new.self c.keep_of.new.self c.grant-credits.result c.own_or_kept-key.result c.reply_header-header.result c.close_reply.new.self
     (rw c.in-Some.is at c.in_ok-answered.ensures.ok) (c.in-Ok.ensures.opened front before w o)
     (c.grant-credits.ensures.count ∙ ap (λ (h : Header). credits_granted c.args.connection.now.window h.credits) c.requires.header) c.grant-credits.ensures.more
-    (c.response_key-key.ensures c.args.server.now c.args.progress.now.context request c.requires.header (c.signing-signing.ensures request c.requires.header))
-    (λ body. c.reply_header-header.ensures request body c.response_key-key.result c.requires.header c.is_some.ensures)
+    (c.own_or_kept-key.ensures request c.requires.header ∙ ap (key_or_kept c.args.connection.now.keys request c.in-Some.answered.ids) (c.response_key-own.ensures c.args.server.now c.args.progress.now.context request c.requires.header (c.signing-signing.ensures request c.requires.header)))
+    (c.keep_of.ensures request c.requires.header)
+    (λ body. c.reply_header-header.ensures request body c.own_or_kept-key.result c.requires.header c.is_some.ensures)
     (λ body. c.close_reply.ensures.placed front before body w place) (λ body put. c.close_reply.ensures.closed front before body w place put)
 
 pub returns-clause-observed : goal.returns-clause-observed

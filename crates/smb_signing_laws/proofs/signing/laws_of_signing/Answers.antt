@@ -13,5 +13,5 @@ returns g c = record {
   answers = chain_answers g.A.Authenticator.meaning;
   verified = verified_without_keys g.A.Authenticator.meaning;
   keyless = λ s events gives none. run_keyless g.A.Authenticator.meaning gives s events none;
-  replies = λ arrival chain requests gives none all. all_keyless g.A.Authenticator.meaning gives arrival chain requests none all;
+  replies = λ arrival chain requests gives none unkept all. all_keyless g.A.Authenticator.meaning gives arrival chain requests none unkept all;
 }
