@@ -3,7 +3,7 @@ use Rattle.std.specs.Prelude.{ℕ, ◌==◌, not, [], filter}
 use Rattle.std.specs.List.{fold}
 use Rattle.smb_session.specs.Table.{connected, numbers_on}
 use Rattle.smb_session.specs.Sessions.{SessionsState, new_sessions}
-use Rattle.smb_tree.specs.Content.{new_content_within}
+use Rattle.smb_tree.specs.Content.{Content, new_content_within}
 use Rattle.smb_access.specs.declared.open_row.Owner.TheVariants.{Session}
 use Rattle.smb_opens.specs.Close.{closed_all}
 use Rattle.smb_opens.specs.State.{StoreState}
@@ -16,18 +16,18 @@ pub record ServerState (S : Type 0) : Type 0 where
   pub sessions : SessionsState S
   pub store : StoreState
 
--- a new server: no session, and of files the root alone; the first open will be 1
-abbrev pub new_server : {S : Type 0} → Settings → S → ServerState S
-new_server settings authenticator = record {
+-- a server over the files of a tree: no session; the first open will be 1
+abbrev pub server_over : {S : Type 0} → Settings → S → Content → ServerState S
+server_over settings authenticator tree = record {
   settings = settings;
   sessions = new_sessions authenticator settings.share;
-  store = record {
-    tree = new_content_within settings.limits settings.created settings.capacity;
-    opens = [];
-    locks = [];
-    next = 1;
-  };
+  store = record { tree = tree; opens = []; locks = []; next = 1 };
 }
+
+-- a new server: of files the root alone
+abbrev pub new_server : {S : Type 0} → Settings → S → ServerState S
+new_server settings authenticator =
+    server_over settings authenticator (new_content_within settings.limits settings.created settings.capacity)
 
 -- a connection may begin sessions from now on
 abbrev pub connection_added : {S : Type 0} → ServerState S → ℕ → ServerState S

@@ -15,11 +15,11 @@ ghost use Rattle.smb_session.specs.Sessions.{new_sessions};
 ghost use Rattle.smb_tree.specs.Content.{new_content, new_content_within, used_space};
 ghost use Rattle.smb_info.specs.FileSystemInformation.{is_volume_label};
 ghost use Rattle.smb_info.specs.Volumes.{volume_facts};
-ghost use Rattle.smb_opens.specs.Good.{GoodStore};
+ghost use Rattle.smb_opens.specs.Good.{GoodStore, UnmarkedTree};
 ghost use Rattle.smb_request.specs.Settings.{settings_within, settings_of, is_lawful};
 ghost use Rattle.smb_request.specs.Negotiate.{negotiate_answer};
 ghost use Rattle.smb_request.specs.Parts.{volume_of, hello_of};
-ghost use Rattle.smb_request.specs.State.{new_server, connection_added, connection_ended};
+ghost use Rattle.smb_request.specs.State.{new_server, server_over, connection_added, connection_ended};
 ghost use Rattle.smb_request.specs.Owners.{AreOwned};
 
 use super::config::Config;
@@ -127,6 +127,25 @@ impl<A: Authenticator + Drop, T: Tree + Drop, O: Opens + Drop> Server<A, T, O> {
         requires tree { T.content tree ≡ new_content_within limits config.created config.capacity }
         requires opens { O.content opens ≡ [] }
         ensures { IfOk result (λ server. server ≡ new_server (settings_within limits config) authenticator) }
+    {
+        Server::over(alloc, limits, config, authenticator, tree, opens)
+    }
+
+    /// What connections share at first over a tree that holds files, of which none is marked: no session.
+    pub fn over(
+        alloc: Global,
+        limits: Limits,
+        config: Config,
+        authenticator: A,
+        tree: T,
+        opens: O,
+    ) -> Result<Self, AllocError>
+        requires lawful { is_lawful (settings_within limits config) ≡ true }
+        requires tree { UnmarkedTree (T.content tree) }
+        requires room { (T.content tree).capacity ≡ config.capacity }
+        requires limits { (T.content tree).limits ≡ limits }
+        requires opens { O.content opens ≡ [] }
+        ensures { IfOk result (λ server. server ≡ server_over (settings_within limits config) authenticator (T.content tree)) }
     {
         let sessions = sessions_of(alloc, authenticator, config.share.as_bytes())?;
         Ok(Server {

@@ -2,7 +2,7 @@
 use Rattle.std.proofs.Common.{◌≡◌, ℕ, ◌<◌, ◌≤◌, inr, true, false, List, [], ◌∷◌, map, length, None, Some, refl, sym, ap, subst, ◌∙◌, arith}
 use Rattle.std.proofs.lemmas.Bool.{true≢false}
 use Rattle.std.specs.List.{AllByRecursion}
-use Rattle.smb_tree.specs.Content.{Path, entry_at, numbered}
+use Rattle.smb_tree.specs.Content.{Content, Path, entry_at, numbered}
 use Rattle.smb_tree.specs.Entries.{Entry}
 use Rattle.smb_tree.proofs.Apart.{numbered-from_at, at-from_numbered}
 use Rattle.smb_session.specs.Authenticator.{Meaning}
@@ -12,7 +12,7 @@ use Rattle.smb_session.specs.Session.{SessionState}
 use Rattle.smb_session.specs.Table.{TableState, numbers_on}
 use Rattle.smb_access.specs.Close.{is_deletable}
 use Rattle.smb_opens.specs.Close.{closed}
-use Rattle.smb_opens.specs.Good.{GoodStore}
+use Rattle.smb_opens.specs.Good.{GoodStore, UnmarkedTree}
 use Rattle.smb_opens.specs.Readers.{LeavesFiles, is_to_go}
 use Rattle.smb_opens.specs.State.{StoreState}
 use Rattle.smb_opens.proofs.OnePath.{new_tree}
@@ -23,7 +23,7 @@ use Rattle.smb_engine.specs.Good.{IsGoodStream, GoodState}
 use Rattle.smb_engine.specs.Rest.{ends_of, IsAtRest}
 use Rattle.smb_peers.specs.Event.{EventText}
 use Rattle.smb_engine.specs.Run.{run}
-use Rattle.smb_engine.specs.State.{StreamState, ShareState, new_share}
+use Rattle.smb_engine.specs.State.{StreamState, ShareState, share_over, new_share}
 use Rattle.smb_engine.proofs.Rest.{at_rest}
 use Rattle.smb_restart_laws.specs.Ends.{all_ended}
 use Rattle.smb_restart_laws.proofs.Due.{IsGoing, going_closed, gone_at_last}
@@ -32,15 +32,15 @@ use Rattle.smb_restart_laws.proofs.Requests.{IsTableHeld}
 use Rattle.smb_restart_laws.proofs.Shares.{numbers, IsShareHeld, good_held, run_held, store_keeps}
 use Rattle.smb_restart_laws.proofs.Runs.{ends_keep}
 
--- a new share is good
-pub new_good : {S : Type 0} (settings : Settings) (accounts : S) → is_lawful settings ≡ true → GoodState (new_share settings accounts)
-new_good settings accounts lawful =
-    let tree = new_tree settings.limits settings.created settings.capacity in
+-- a share over good files is good
+pub over_good : {S : Type 0} (settings : Settings) (accounts : S) (content : Content) → is_lawful settings ≡ true → UnmarkedTree content →
+    content.capacity ≡ settings.capacity → content.limits ≡ settings.limits → GoodState (share_over settings accounts content)
+over_good settings accounts content lawful tree room limits =
     record {
       lawful = lawful;
       named = refl;
-      room = refl;
-      limits = refl;
+      room = room;
+      limits = limits;
       few = omega arith;
       given = tt;
       next = omega arith;
@@ -71,6 +71,11 @@ new_good settings accounts lawful =
       };
       owned = tt;
     }
+
+-- a new share is good
+pub new_good : {S : Type 0} (settings : Settings) (accounts : S) → is_lawful settings ≡ true → GoodState (new_share settings accounts)
+new_good settings accounts lawful =
+    over_good settings accounts _ lawful (new_tree settings.limits settings.created settings.capacity) refl refl
 
 -- of no numbers none is contained
 none_known : (sessions : List (ℕ × SessionState)) → AllByRecursion (λ e. contains [] e.1.connection ≡ true) sessions → sessions ≡ []

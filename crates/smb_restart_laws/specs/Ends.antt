@@ -1,10 +1,10 @@
 -- The ends of all connections that are open.
 use Rattle.std.specs.Prelude.{◌≡◌, ℕ, true, false, List, [], None, Some}
 use Rattle.smb_session.specs.Authenticator.{Meaning}
-use Rattle.smb_tree.specs.Content.{Path, entry_at, numbered}
+use Rattle.smb_tree.specs.Content.{Content, Path, entry_at, numbered}
 use Rattle.smb_tree.specs.Entries.{Entry}
 use Rattle.smb_access.specs.Close.{is_deletable}
-use Rattle.smb_opens.specs.Good.{GoodStore}
+use Rattle.smb_opens.specs.Good.{GoodStore, UnmarkedTree}
 use Rattle.smb_opens.specs.Readers.{LeavesFiles, is_to_go}
 use Rattle.smb_opens.specs.State.{StoreState}
 use Rattle.smb_request.specs.Owners.{AreOwned}
@@ -13,7 +13,7 @@ use Rattle.smb_peers.specs.Event.{EventText}
 use Rattle.smb_engine.specs.Good.{GoodState}
 use Rattle.smb_engine.specs.Rest.{ends_of, IsAtRest}
 use Rattle.smb_engine.specs.Run.{Ran, run}
-use Rattle.smb_engine.specs.State.{ShareState, new_share}
+use Rattle.smb_engine.specs.State.{ShareState, share_over, new_share}
 
 -- what the ends of all connections that are open leave and put out, in rising number
 abbrev pub all_ended : {S : Type 0} → Meaning S → ShareState S → Ran S
@@ -32,6 +32,13 @@ module _ {S : Type 0} (authenticator : Meaning S) where
   abbrev pub ANewShareIsGood : Type 0
   ANewShareIsGood =
       (settings : Settings) (accounts : S) → is_lawful settings ≡ true → GoodState (new_share settings accounts)
+
+  -- and so is one over files, which are good, of the configuration's capacity and limits, and of which none is marked
+  abbrev pub AShareOverFilesIsGood : Type 0
+  AShareOverFilesIsGood =
+      (settings : Settings) (accounts : S) (tree : Content) → is_lawful settings ≡ true → UnmarkedTree tree →
+      tree.capacity ≡ settings.capacity → tree.limits ≡ settings.limits →
+      GoodState (share_over settings accounts tree)
 
   -- whatever happens to a share that was good, its files, opens and locks stay good, and each open belongs to a session
   -- and a tree connect that exist

@@ -1,9 +1,12 @@
 use Rattle.smb_engine.specs.Run.{run}
-use Rattle.smb_restart_laws.proofs.Ended.{new_good, stays_good, no_file_lost, went, found_again, all_end}
+use Rattle.smb_restart_laws.proofs.Ended.{new_good, over_good, stays_good, no_file_lost, went, found_again, all_end}
 use Rattle.smb_restart_laws.proofs.ends.laws_of_ends.Goals as goal
 
 pub returns-clause-new : goal.returns-clause-new
 returns-clause-new g c = new_good
+
+pub returns-clause-over : goal.returns-clause-over
+returns-clause-over g c = over_good
 
 pub returns-clause-end : goal.returns-clause-end
 returns-clause-end g c = all_end g.A.Authenticator.meaning
