@@ -1,0 +1,4 @@
+pub mod Journal
+pub mod Written
+pub mod Slots
+pub mod Kept

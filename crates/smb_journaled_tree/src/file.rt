@@ -1,0 +1,122 @@
+//! Where a journal's bytes are kept.
+
+ghost use Rattle.std.specs.Prelude.{◌≡◌, ◌++◌, [], OnOk, OnErr, length, take};
+ghost use Rattle.smb_journaled_tree.specs.Journal.{AddsPart};
+ghost use Rattle.smb_journaled_tree.specs.declared.file.JournalFault.TheVariants.{NoMemory};
+
+use smb_wire::WireFault;
+use std::alloc::{AllocError, Global};
+use std::marker::Model;
+use thiserror::Error;
+
+/// Why a journal could not be written.
+#[derive(Clone, Copy, Debug, PartialEq, Eq, Error)]
+pub enum JournalFault {
+    /// An allocation was refused.
+    #[error("no memory")]
+    NoMemory,
+    /// The file refused.
+    #[error("not written")]
+    NotWritten,
+}
+
+impl From<AllocError> for JournalFault {
+    ghost from_gives = { λ _ fault. fault ≡ NoMemory };
+
+    fn from(_error: AllocError) -> JournalFault {
+        JournalFault::NoMemory
+    }
+}
+
+impl From<WireFault> for JournalFault {
+    ghost from_gives = { λ _ fault. fault ≡ NoMemory };
+
+    fn from(_fault: WireFault) -> JournalFault {
+        JournalFault::NoMemory
+    }
+}
+
+/// A file that holds a journal's batches, one behind the other. It is its bytes, which only these calls change.
+pub trait JournalFile {
+    ghost use Rattle.std.specs.Prelude.{ℕ, List};
+
+    /// Its bytes.
+    ghost held: { Self → List ℕ };
+
+    /// How many bytes it has.
+    fn len(&self) -> u64
+        ensures { result ≡ length (held self.now) };
+
+    /// Puts bytes behind those that it has. After an error some of them are there, from the first on, and not all.
+    fn append(&mut self, bytes: &[u8]) -> Result<(), JournalFault>
+        ensures ok { OnOk result (held self.new ≡ held self.old ++ bytes.now) }
+        ensures err { OnErr result (AddsPart (held self.old) bytes.now (held self.new)) };
+
+    /// Takes away all bytes but the first so many. After an error none is gone.
+    fn cut(&mut self, size: u64) -> Result<(), JournalFault>
+        ensures ok { OnOk result (held self.new ≡ take size (held self.old)) }
+        ensures err { OnErr result (held self.new ≡ held self.old) };
+
+    /// Waits until what was appended lasts. It changes no byte.
+    fn sync(&mut self) -> Result<(), JournalFault>
+        ensures { held self.new ≡ held self.old };
+}
+
+/// A journal's file in memory, for trials.
+#[derive(Drop)]
+pub struct MemoryFile {
+    bytes: Vec<u8>,
+}
+
+impl Model for MemoryFile {
+    ghost use Rattle.std.specs.Prelude.{ℕ, List};
+
+    ghost Value = { List ℕ };
+
+    ghost view = { λ file. file.bytes.items };
+}
+
+impl MemoryFile {
+    /// An empty file.
+    pub fn new(alloc: Global) -> MemoryFile
+        ensures { result ≡ [] }
+    {
+        MemoryFile {
+            bytes: Vec::new(alloc),
+        }
+    }
+
+    /// Its bytes.
+    pub fn bytes(&self) -> &[u8]
+        ensures { result.now ≡ self.now }
+    {
+        &self.bytes
+    }
+}
+
+impl JournalFile for MemoryFile {
+    ghost held = { λ bytes. bytes };
+
+    fn len(&self) -> u64 {
+        self.bytes.len() as u64
+    }
+
+    fn append(&mut self, bytes: &[u8]) -> Result<(), JournalFault> {
+        if bytes.is_empty() {
+            return Ok(());
+        }
+        self.bytes.extend_from_slice(bytes)?;
+        Ok(())
+    }
+
+    fn cut(&mut self, size: u64) -> Result<(), JournalFault> {
+        if size < self.bytes.len() as u64 {
+            self.bytes.truncate(size as usize);
+        }
+        Ok(())
+    }
+
+    fn sync(&mut self) -> Result<(), JournalFault> {
+        Ok(())
+    }
+}

@@ -1,0 +1,24 @@
+//! A tree around a tree whose changes are kept in a journal.
+//!
+//! A [`JournaledTree`] is a tree (`Tree` of the library `smb_tree`) with the content of another one that it holds. It
+//! notes what changes, and [`JournaledTree::settle`] writes what changed since the last time as one batch of changes
+//! (the library `smb_changes`) behind those that a [`JournalFile`] has. What a crash leaves of the file then keeps the
+//! files as they were at the last time or as they are at this one (`specs/Journal.antt`). Where nothing changed nothing
+//! is written.
+//!
+//! Additions, writes and other sizes are noted before they are made, so that want of memory refuses them. Other times and
+//! attributes, marks, removals and moves take no memory for the journal: the entries that they change are marked dirty,
+//! for which each has a slot from its addition on, and `settle` notes each of these as it then is.
+//!
+//! [`MemoryFile`] is a journal's file in memory, for trials.
+#![tactic(auto)]
+
+mod faults;
+mod file;
+mod journal;
+mod notes;
+mod slots;
+mod torn;
+
+pub use file::{JournalFault, JournalFile, MemoryFile};
+pub use journal::JournaledTree;
