@@ -1,4 +1,4 @@
-"""The program over TCP: what it prints, its statuses, and that it serves beside peers that misbehave.
+"""The program over TCP: what it prints, its statuses, who may connect, and that it serves beside peers that misbehave.
 
 Each test starts it anew. None waits for a time to pass but where the program itself is to wait; where an answer does
 not come at all, its test fails after 60 seconds.
@@ -9,6 +9,7 @@ import struct
 import tempfile
 import time
 
+from tests import connecting
 from tests.smb import ntlm
 from tests.smb.client import (ALL_ACCESS, CHAIN, LONGEST_PIECE, OPEN_IF, STATUS_AT, opens_a_file, opens_the_root,
                               search)
@@ -461,4 +462,4 @@ TESTS = (
 
 
 def tests(words):
-    return [(test, words.program) for test in TESTS]
+    return [(test, words.program) for test in (*TESTS, *connecting.TESTS)]

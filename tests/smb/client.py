@@ -14,8 +14,8 @@ CHAIN = 16
 class Client:
     """A client's stream."""
 
-    def __init__(self, port, patience=PATIENCE, host='127.0.0.1'):
-        self.stream = socket.create_connection((host, port), patience)
+    def __init__(self, port, patience=PATIENCE, host='127.0.0.1', source=None):
+        self.stream = socket.create_connection((host, port), patience, (source, 0) if source else None)
 
     def send(self, data):
         self.stream.sendall(data)

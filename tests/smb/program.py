@@ -85,8 +85,8 @@ class Served:
         self.process.kill()
         self.process.communicate()
 
-    def client(self):
-        return Client(self.port, self.patience)
+    def client(self, source=None):
+        return Client(self.port, self.patience, source=source)
 
 
 def memory_of(share):

@@ -7,7 +7,7 @@ import sys
 
 from tests import met
 from tests.smb.program import TOP
-from tests.words import accounts, faults, program, sharing, without_memory
+from tests.words import accounts, faults, hosts, program, sharing, without_memory
 from tools.lib import refusals
 from tools.lib.demo import demo
 
@@ -35,7 +35,8 @@ def every_refusal_is_met_by_a_row(_):
 
 def tests(words):
     """The run-time checks of an unproved program have memory of their own: there memory doesn't run out. Nor is smb_rows built."""
-    of_built = () if words.program.is_unproved else (*without_memory.TESTS, *sharing.WITHOUT_MEMORY, every_refusal_is_met_by_a_row)
-    return [(test, words.program) for test in (*of_built, *program.TESTS, *faults.TESTS, *accounts.TESTS, *sharing.TESTS,
+    of_built = () if words.program.is_unproved else (*without_memory.TESTS, *sharing.WITHOUT_MEMORY, *hosts.WITHOUT_MEMORY,
+                                                     every_refusal_is_met_by_a_row)
+    return [(test, words.program) for test in (*of_built, *program.TESTS, *faults.TESTS, *accounts.TESTS, *sharing.TESTS, *hosts.TESTS,
                                              the_demo_prints_what_is_stored,
                                              the_profile_has_the_tables_that_are_printed)]

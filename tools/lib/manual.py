@@ -7,7 +7,7 @@ import re
 import sys
 
 TOP = pathlib.Path(__file__).resolve().parent.parent.parent
-ROWS = [TOP / "crates/smb_command_line/src" / it for it in ("commands.rt", "account.rt", "share.rt")]
+ROWS = [TOP / "crates/smb_command_line/src" / it for it in ("commands.rt", "clients.rt", "account.rt", "share.rt")]
 PAGE = TOP / "docs/smbshare.1"
 PLACED = ("First", "FirstWord", "Second", "Third")
 BEGIN, END = ".SH OPTIONS\n", ".TP\n.BR \\-h"
@@ -21,7 +21,7 @@ def texts(source):
 def options(source):
     """Each option's name, the word for its value or None, and its help, in the order of the source and each once."""
     found, named = {}, texts(source)
-    for row in re.findall(r"^const \w+: OptionRow = OptionRow \{\n(.*?)\n\};", source, re.M | re.S):
+    for row in re.findall(r"^(?:pub\(crate\) )?const \w+: OptionRow = OptionRow \{\n(.*?)\n\};", source, re.M | re.S):
         name = re.search(r'name: "([\w-]+)"', row)[1]
         takes = re.search(r'takes: Takes::(\w+)(?:\(\s*"(\w+)")?', row)
         text = re.search(r'help: (?:"((?:[^"\\]|\\.)*)"|(\w+))', row)

@@ -1,6 +1,7 @@
 //! The words that the command line may have.
 
 use super::account::ACCOUNT;
+use super::clients::{HOSTS, PER_ADDRESS};
 use super::options::{CommandRow, Needed, OptionRow, Takes, command_of};
 use super::share::SHARE;
 use clap::Command;
@@ -297,7 +298,7 @@ const SEED_OF_REPLAY: OptionRow = OptionRow {
     help: SEED_HELP,
 };
 
-// The commands stand in the order of the program's help, in three lists, each with a function of its own: one of all of them
+// The commands are in the order of the program's help, in three lists, each with a function of its own: one of all of them
 // is too long for the search that proves its function safe.
 
 /// The commands that perform what comes.
@@ -324,8 +325,27 @@ const PERFORMING: &[CommandRow] = &[
         about: "Serves a share over TCP",
         examples: SERVE_HELP,
         options: &[
-            CONFIG, EXPLAIN, LISTEN, LOGIN, ACCOUNTS, SIGNING, SEED, TURNS, IDLE, IDLE_NEW, OWED,
-            JOURNAL, RECORD, SYNC, LOG, LOG_LEVEL, LOG_MUST, FROM, CLOCK,
+            CONFIG,
+            EXPLAIN,
+            LISTEN,
+            HOSTS,
+            PER_ADDRESS,
+            LOGIN,
+            ACCOUNTS,
+            SIGNING,
+            SEED,
+            TURNS,
+            IDLE,
+            IDLE_NEW,
+            OWED,
+            JOURNAL,
+            RECORD,
+            SYNC,
+            LOG,
+            LOG_LEVEL,
+            LOG_MUST,
+            FROM,
+            CLOCK,
         ],
     },
 ];

@@ -13,6 +13,7 @@
 #![tactic(auto)]
 
 mod account;
+mod clients;
 mod command_line;
 mod commands;
 mod credential;

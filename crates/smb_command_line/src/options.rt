@@ -18,6 +18,8 @@ pub(crate) enum Takes {
     Word(&'static str, &'static [&'static str]),
     /// A number, this one at least.
     Number(&'static str, u64),
+    /// A number above 0, this one at most.
+    NumberUpTo(&'static str, u64),
     /// A text, in the first place behind the command, and not behind the option's name.
     First(&'static str),
     /// One of these words, in the first place behind the command.
@@ -77,6 +79,10 @@ fn taking<'a>(arg: Arg<'a>, name: &'static str, takes: Takes) -> Arg<'a> {
             .long(name)
             .value_name(value)
             .value_parser(ValueParser::Unsigned(least, u64::MAX)),
+        Takes::NumberUpTo(value, most) => arg
+            .long(name)
+            .value_name(value)
+            .value_parser(ValueParser::Unsigned(1, most)),
         Takes::First(value) => arg.index(1).value_name(value),
         Takes::FirstWord(value, words) => arg
             .index(1)

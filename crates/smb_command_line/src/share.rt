@@ -1,5 +1,6 @@
 //! The words of `share`.
 
+use super::clients::{HOSTS, PER_ADDRESS};
 use super::options::{CommandRow, Needed, OptionRow, Takes};
 
 /// The end of its help.
@@ -90,6 +91,15 @@ pub(crate) const SHARE: CommandRow = CommandRow {
     about: "Serves a folder's files over TCP, by a configuration that is made for them",
     examples: SHARE_HELP,
     options: &[
-        FOLDER, NAME, ACCOUNT, PASSWORDS, GUESTS, CAPACITY, LISTEN, JOURNAL,
+        FOLDER,
+        NAME,
+        ACCOUNT,
+        PASSWORDS,
+        GUESTS,
+        CAPACITY,
+        LISTEN,
+        HOSTS,
+        PER_ADDRESS,
+        JOURNAL,
     ],
 };

@@ -22,7 +22,8 @@
 //!
 //! Where memory runs out for a line, the line is left out, and the next line that is written follows a line
 //! `lines were lost for want of memory`; where a write fails, nothing more is written. Neither is an error: a log changes nothing of
-//! what the share does.
+//! what the share does. Connections that are closed as they are accepted have ten lines in a second at most; the next one tells how many
+//! had none.
 //!
 //! No name makes a line, a field, or a character that a terminal obeys: smb_log_text says how each is written.
 //! Proved is that the calls are safe and return, and that [`LoggedPeers`] are lawful [`Peers`](smb_peers::Peers); that the lines say what
@@ -30,6 +31,7 @@
 #![tactic(auto)]
 
 mod ending;
+mod kept_out;
 mod level;
 mod log;
 mod minute;
@@ -38,6 +40,7 @@ mod peers;
 mod request;
 
 pub use ending::Ending;
+pub use kept_out::KeptOut;
 pub use level::Level;
 pub use log::Log;
 pub use observer::LogObserver;

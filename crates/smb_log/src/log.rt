@@ -1,6 +1,7 @@
 //! The log of a share.
 
 use crate::ending::Ending;
+use crate::kept_out::KeptOut;
 use crate::level::Level;
 use crate::minute::{Counts, Minute, add};
 use crate::request::LoggedRequest;
@@ -125,6 +126,19 @@ impl<W: Write + Drop> Log<W> {
         } else {
             add(&mut self.counts.ran_out, 1);
             self.lines.put(moment, subject, "refused: memory", None)
+        };
+    }
+
+    /// Takes note that a connection to a peer of this address was closed as it was accepted, and so many before it of which nothing is
+    /// written.
+    pub fn kept_out(&mut self, address: &str, why: KeptOut, before: u64) {
+        let (moment, subject) = (self.moment, Subject::at(address));
+        let _ = if before == 0 {
+            let event = format_args!("refused: {why}");
+            self.lines.put(moment, subject, event, None)
+        } else {
+            let event = format_args!("refused: {why}, and {before} before it");
+            self.lines.put(moment, subject, event, None)
         };
     }
 

@@ -3,6 +3,7 @@
 ghost use Rattle.std.specs.Prelude.{◌≡◌};
 
 use crate::ending::Ending;
+use crate::kept_out::{KeptOut, KeptOutLines};
 use crate::log::Log;
 use crate::observer::borrowed;
 use smb_peers::{Clock, PeerEvent, Peers, SendFault, Stopping, Usage};
@@ -21,6 +22,9 @@ pub trait ConnectionFacts {
 
     /// Why a connection has ended that the share did not end.
     fn ending(&self, number: u64) -> Ending;
+
+    /// Why a connection was closed as it was accepted, where one was since this was asked last: its address is added.
+    fn take_kept_out(&self, address: &mut String) -> Option<KeptOut>;
 }
 
 /// An opening of which the share has not decided, and when it came.
@@ -49,6 +53,7 @@ pub struct LoggedPeers<'a, P: Peers + Drop, F: ConnectionFacts, C: Clock + Drop,
     connections: BTreeMap<u64, u64>,
     waiting: Option<Opening>,
     next: u64,
+    kept_out: KeptOutLines,
 }
 
 impl<'a, P: Peers + Drop, F: ConnectionFacts, C: Clock + Drop, W: Write + Drop> LoggedPeers<
@@ -82,6 +87,7 @@ impl<'a, P: Peers + Drop, F: ConnectionFacts, C: Clock + Drop, W: Write + Drop> 
             connections: BTreeMap::new(alloc),
             waiting: None,
             next,
+            kept_out: KeptOutLines::none(),
         }
     }
 
@@ -130,6 +136,19 @@ impl<'a, P: Peers + Drop, F: ConnectionFacts, C: Clock + Drop, W: Write + Drop> 
         let _ = self.connections.remove(&number);
     }
 
+    /// Logs a connection that was closed at this moment as it was accepted, where one was.
+    fn log_kept_out(&mut self, moment: u64)
+        ensures { self.new.peers ≡ self.old.peers }
+    {
+        let mut address = String::new(self.alloc);
+        if let Some(why) = self.facts.take_kept_out(&mut address)
+            && let Some(before) = self.kept_out.next(moment)
+            && let Some(mut log) = borrowed(self.log)
+        {
+            log.kept_out(address.as_str(), why, before);
+        }
+    }
+
     /// Logs an event at this moment, an opening once the share has taken it; and notes whether a line of a minute is due.
     fn log_event(&mut self, event: PeerEvent, moment: u64)
         ensures { self.new.peers ≡ self.old.peers }
@@ -139,6 +158,7 @@ impl<'a, P: Peers + Drop, F: ConnectionFacts, C: Clock + Drop, W: Write + Drop> 
         if let Some(mut log) = borrowed(self.log) {
             log.note_moment(moment);
         }
+        self.log_kept_out(moment);
         match event {
             PeerEvent::Opened(number) => self.waiting = Some(Opening { number, moment }),
             PeerEvent::Bytes(number) => {

@@ -24,6 +24,10 @@ pub struct SharingWords<'a> {
     pub capacity: Option<&'a str>,
     /// IP addresses with a port.
     pub listen: &'a [&'a str],
+    /// Who may connect, IP addresses and networks apart by commas; everyone where there is none.
+    pub hosts: Option<&'a str>,
+    /// How many clients of one address may be connected, where that is limited.
+    pub per_address: Option<u64>,
     /// The file that changes are kept in.
     pub journal: Option<&'a str>,
 }

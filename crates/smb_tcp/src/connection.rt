@@ -4,6 +4,7 @@ use super::lending::Lending;
 use mio::event::Event;
 use mio::net::TcpStream;
 use std::alloc::Global;
+use std::net::IpAddr;
 use std::time::Duration;
 
 /// When a limit passes that runs since then; at the end of all time where there is none.
@@ -19,6 +20,8 @@ fn passes_at(since: Duration, limit: Option<Duration>) -> Duration {
 pub(crate) struct Connection {
     pub(crate) number: u64,
     pub(crate) stream: TcpStream,
+    /// Its peer's address.
+    pub(crate) address: IpAddr,
     /// It may have bytes: no read has found it empty since the system last spoke of it.
     pub(crate) readable: bool,
     /// What came of it, and is lent by and by.
@@ -76,10 +79,17 @@ impl SilenceLimits {
 
 impl Connection {
     /// A connection that was accepted at this time.
-    pub(crate) fn new(alloc: Global, number: u64, stream: TcpStream, now: Duration) -> Self {
+    pub(crate) fn new(
+        alloc: Global,
+        number: u64,
+        stream: TcpStream,
+        address: IpAddr,
+        now: Duration,
+    ) -> Self {
         Connection {
             number,
             stream,
+            address,
             readable: false,
             lending: Lending::new(alloc),
             closing: false,

@@ -9,6 +9,7 @@ use mio::Events;
 use std::alloc::{AllocError, Global};
 use std::io;
 use std::io::{ErrorKind, Write};
+use std::net::IpAddr;
 use std::time::Duration;
 
 /// What came of a read.
@@ -367,12 +368,12 @@ impl Connections {
         }
     }
 
-    /// Drops the one of a number.
-    pub(crate) fn remove(&mut self, number: u64) {
-        if let Some(place) = self.place_of(number) {
-            let _ = self.end(place);
-            self.note_owed(place, 0);
-            drop(self.list.remove(place));
-        }
+    /// Drops the one of a number, and tells its peer's address.
+    pub(crate) fn remove(&mut self, number: u64) -> Option<IpAddr> {
+        let place = self.place_of(number)?;
+        let _ = self.end(place);
+        self.note_owed(place, 0);
+        let connection = self.list.remove(place);
+        Some(connection.address)
     }
 }

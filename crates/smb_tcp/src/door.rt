@@ -4,6 +4,7 @@ use mio::Token;
 use mio::net::{TcpListener, TcpStream};
 use std::alloc::{AllocError, Global};
 use std::io::ErrorKind;
+use std::net::SocketAddr;
 
 /// How many listeners there are at most.
 pub const MOST_LISTENERS: usize = 16;
@@ -21,12 +22,19 @@ struct Door {
     refused: bool,
 }
 
+/// A stream that was accepted, and its peer's address.
+#[derive(Drop)]
+pub(crate) struct Newcomer {
+    pub(crate) stream: TcpStream,
+    pub(crate) address: SocketAddr,
+}
+
 impl Door {
     /// Accepts a connection, where one waits; false where the system refuses.
-    fn accept(&mut self, newcomer: &mut Option<TcpStream>) -> bool {
+    fn accept(&mut self, newcomer: &mut Option<Newcomer>) -> bool {
         match self.listener.accept() {
-            Ok((stream, _)) => {
-                *newcomer = Some(stream);
+            Ok((stream, address)) => {
+                *newcomer = Some(Newcomer { stream, address });
                 true
             }
             Err(error) if error.kind() == ErrorKind::WouldBlock => {
@@ -58,7 +66,7 @@ pub(crate) enum Waiting {
 pub(crate) struct Doors {
     // By their tokens, from the greatest downward.
     list: Vec<Door>,
-    newcomer: Option<TcpStream>,
+    newcomer: Option<Newcomer>,
     // The place of the listener that accepts next, where somebody waits there.
     turn: usize,
 }
@@ -139,8 +147,13 @@ impl Doors {
         }
     }
 
+    /// The address of the newcomer, where there is one.
+    pub(crate) fn address(&self) -> Option<SocketAddr> {
+        self.newcomer.as_ref().map(|newcomer| newcomer.address)
+    }
+
     /// Gives away the newcomer.
-    pub(crate) fn take(&mut self) -> Option<TcpStream> {
+    pub(crate) fn take(&mut self) -> Option<Newcomer> {
         self.newcomer.take()
     }
 }

@@ -1,8 +1,9 @@
 //! What is known of peers beside their bytes.
 
+use super::admission::KeptOut;
 use super::tcp::{DEFAULT_CONNECTIONS, streams_for};
 use std::alloc::{AllocError, Global};
-use std::cell::RefCell;
+use std::cell::{Cell, RefCell};
 use std::net::SocketAddr;
 
 /// Why the listener itself ended a connection.
@@ -18,16 +19,17 @@ pub enum GivenUp {
 #[derive(Clone, Copy)]
 struct Fact {
     number: u64,
-    address: Option<SocketAddr>,
+    address: SocketAddr,
     given_up: Option<GivenUp>,
 }
 
 /// The addresses of peers, and which of them the listener ended, for whoever logs them. Each is known from the opening of its
-/// connection until that is closed. All room is made first.
+/// connection until that is closed; of those that are closed as they are accepted, the last one. All room is made first.
 #[derive(Drop)]
 pub struct PeerFacts {
     // In the order of their numbers.
     facts: RefCell<Vec<Fact>>,
+    kept_out: Cell<Option<(SocketAddr, KeptOut)>>,
 }
 
 impl PeerFacts {
@@ -40,6 +42,7 @@ impl PeerFacts {
     pub fn within(alloc: Global, connections: usize) -> Result<Self, AllocError> {
         Ok(PeerFacts {
             facts: RefCell::new(Vec::with_capacity(alloc, streams_for(connections))?),
+            kept_out: Cell::new(None),
         })
     }
 
@@ -56,7 +59,7 @@ impl PeerFacts {
 
     /// The address of the peer of a connection; None where it is not known.
     pub fn address(&self, number: u64) -> Option<SocketAddr> {
-        self.fact(number)?.address
+        Some(self.fact(number)?.address)
     }
 
     /// Why the listener ended a connection; None where it did not.
@@ -64,8 +67,18 @@ impl PeerFacts {
         self.fact(number)?.given_up
     }
 
+    /// The address of the connection that was closed last as it was accepted, and why; None where none was since this was asked last.
+    pub fn take_kept_out(&self) -> Option<(SocketAddr, KeptOut)> {
+        self.kept_out.replace(None)
+    }
+
+    /// Notes a connection that was closed as it was accepted, and why.
+    pub(crate) fn note_kept_out(&self, address: SocketAddr, why: KeptOut) {
+        self.kept_out.set(Some((address, why)));
+    }
+
     /// Notes a connection that was opened.
-    pub(crate) fn add(&self, number: u64, address: Option<SocketAddr>) {
+    pub(crate) fn add(&self, number: u64, address: SocketAddr) {
         if let Ok(mut facts) = self.facts.try_borrow_mut() {
             let _ = facts.push(Fact {
                 number,

@@ -5,12 +5,14 @@ ghost use Rattle.smb_peers.specs.Peers.{OpensOnce};
 ghost use Rattle.smb_peers.specs.declared.peers.PeerEvent.TheVariants.{Opened};
 ghost use Rattle.smb_tcp.specs.Numbers.{numbers_to};
 
+use super::admission::Admission;
 use super::connection::Connection;
 use super::connections::{Connections, Reading};
-use super::door::{Doors, LAST_NUMBER, MOST_LISTENERS, Waiting};
+use super::door::{Doors, LAST_NUMBER, MOST_LISTENERS, Newcomer, Waiting};
 use super::facts::{GivenUp, PeerFacts};
+use super::network::Network;
 use super::piece::Piece;
-use mio::net::{TcpListener, TcpStream};
+use mio::net::TcpListener;
 use mio::{Events, Interest, Poll, Token};
 use smb_peers::{PeerEvent, Peers, SendFault};
 use std::alloc::Global;
@@ -32,8 +34,8 @@ const DEAR_TURN_MILLISECONDS: u64 = 4;
 const SHORT_SEND: usize = 16_384;
 
 /// The streams of one listener or several, numbered from 1 as they are accepted, and read in turn: at most those of the connections that they
-/// are made for, and a newcomer's. All their room is made first. All are looked at only where a limit of silence may have passed, and where a newcomer
-/// finds all places taken.
+/// are made for, and a newcomer's. All their room is made first, but for the counts of `with_address_limit`. All are looked at only where a
+/// limit of silence may have passed, and where a newcomer finds all places taken.
 ///
 /// No call waits for a peer. A stream of which a send took only a part is not read until one takes all. One that neither says nor takes
 /// anything for as long as the idle limit has ended, as if by its peer; so has one that was never answered after a limit of its own. Where as
@@ -46,6 +48,7 @@ pub struct TcpPeers<'a, R: Net + Clock> {
     poll: Poll,
     events: Events,
     doors: Doors,
+    admission: Admission,
     connections: Connections,
     opened: u64,
     // The number of the stream that was looked at last.
@@ -100,6 +103,7 @@ impl<'a, R: Net + Clock> TcpPeers<'a, R> {
             poll: Poll::new(system)?,
             events: Events::with_capacity(alloc, streams + MOST_LISTENERS)?,
             doors: Doors::with_room(alloc)?,
+            admission: Admission::of_all(alloc),
             connections: Connections::with_room(alloc, streams)?,
             opened: 0,
             turn: 0,
@@ -146,6 +150,20 @@ impl<'a, R: Net + Clock> TcpPeers<'a, R> {
     /// all are.)
     pub fn with_owed_limit(mut self, limit: usize) -> Self {
         self.connections.limit_owed(limit);
+        self
+    }
+
+    /// With the networks that clients are let in of. A connection of another one is closed as it is accepted: it has no number and no
+    /// place. It costs time for each network.
+    pub fn with_networks(mut self, networks: Vec<Network>) -> Self {
+        self.admission.limit_networks(networks);
+        self
+    }
+
+    /// With a number of connections of one address that are let in at a time. One more is closed as it is accepted. IPv6 addresses with the
+    /// same first 64 bits count as one.
+    pub fn with_address_limit(mut self, limit: usize) -> Self {
+        self.admission.limit_each(limit);
         self
     }
 
@@ -219,6 +237,24 @@ impl<'a, R: Net + Clock> TcpPeers<'a, R> {
         }
     }
 
+    /// Accepts a connection as the newcomer, where one waits at the listener of a place. One that is not let in is closed.
+    fn accept(&mut self, place: usize)
+        ensures opened { self.new.opened ≡ self.old.opened }
+    {
+        if !self.doors.accept(place) {
+            self.failures = self.failures.saturating_add(1);
+        }
+        let Some(address) = self.doors.address() else {
+            return;
+        };
+        if let Some(why) = self.admission.refusal(address.ip()) {
+            drop(self.doors.take());
+            if let Some(facts) = self.facts {
+                facts.note_kept_out(address, why);
+            }
+        }
+    }
+
     /// Takes in one connection as the newcomer, where one waits and there is room, and gives a newcomer the next number. Where all places
     /// are taken, one that was never answered ends for it.
     fn take_newcomer(&mut self) -> Option<PeerEvent>
@@ -227,9 +263,8 @@ impl<'a, R: Net + Clock> TcpPeers<'a, R> {
     {
         if let Waiting::AtDoor(place) = self.doors.waiting()
             && self.has_room()
-            && !self.doors.accept(place)
         {
-            self.failures = self.failures.saturating_add(1);
+            self.accept(place);
         }
         let Waiting::Newcomer = self.doors.waiting() else {
             return None;
@@ -240,28 +275,44 @@ impl<'a, R: Net + Clock> TcpPeers<'a, R> {
         if !self.has_room() {
             return None;
         }
-        let stream = self.doors.take()?;
-        let number = self.admit(stream)?;
+        let newcomer = self.doors.take()?;
+        let number = self.admit(newcomer)?;
         Some(PeerEvent::Opened(number))
     }
 
-    /// Gives a stream the next number.
+    /// Takes in a connection and counts it, and tells whether there was memory for it.
+    fn keep(&mut self, connection: Connection) -> bool
+        requires { vec_len self.old.connections.list < self.old.connections.most }
+        ensures { self.new.opened ≡ self.old.opened }
+    {
+        let address = connection.address;
+        if !self.admission.add(address) {
+            return false;
+        }
+        let is_kept = self.connections.add(connection);
+        if !is_kept {
+            self.admission.remove(address);
+        }
+        is_kept
+    }
+
+    /// Gives a newcomer the next number.
     #[tactic(auto, using(crate::proofs::Numbering::counted))]
-    fn admit(&mut self, mut stream: TcpStream) -> Option<u64>
+    fn admit(&mut self, newcomer: Newcomer) -> Option<u64>
         requires number { self.old.opened < 0xffff_ffff_ffff_fffe }
         requires free { vec_len self.old.connections.list < self.old.connections.most }
         ensures none { IfNone result (self.new.opened ≡ self.old.opened) }
         ensures some { IfSome result (λ number. (number ≡ self.old.opened + 1) × (self.new.opened ≡ self.old.opened + 1)) }
         ensures once { IfSome result (λ number. OpensOnce (Opened number) (numbers_to self.old.opened) (numbers_to self.new.opened)) }
     {
+        let Newcomer {
+            mut stream,
+            address,
+        } = newcomer;
         let number = self.opened + 1;
         if stream.set_nodelay(true).is_err() {
             self.failures = self.failures.saturating_add(1);
         }
-        let address = match self.facts {
-            Some(_) => stream.peer_addr().ok(),
-            None => None,
-        };
         let both = Interest::READABLE | Interest::WRITABLE;
         let registry = self.poll.registry();
         if registry
@@ -271,8 +322,8 @@ impl<'a, R: Net + Clock> TcpPeers<'a, R> {
             self.failures = self.failures.saturating_add(1);
             return None;
         }
-        let connection = Connection::new(self.alloc, number, stream, self.time);
-        if !self.connections.add(connection) {
+        let connection = Connection::new(self.alloc, number, stream, address.ip(), self.time);
+        if !self.keep(connection) {
             self.failures = self.failures.saturating_add(1);
             return None;
         }
@@ -430,7 +481,9 @@ impl<R: Net + Clock> Peers for TcpPeers<'_, R> {
     }
 
     fn close(&mut self, number: u64) {
-        self.connections.remove(number);
+        if let Some(address) = self.connections.remove(number) {
+            self.admission.remove(address);
+        }
         if let Some(facts) = self.facts {
             facts.remove(number);
         }
