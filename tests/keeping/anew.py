@@ -246,7 +246,7 @@ def what_is_no_recording_is_not_compacted(program):
         found = [program.ran('compact', given=b'# smbshare')[::2],
                  compacted(program, other, os.path.join(folder, 'new')), at_limit]
         wanted = [(1, 'journal: standard input is no file: give the recording by <\n'),
-                  (1, 'journal: no recording: its first line is not that of one\n'), (1, 'output: failed\n')]
+                  (1, 'journal: no recording: its first line is not that of one; name a file that --journal or --record made\n'), (1, 'output: failed\n')]
         if found != wanted:
             print(f'  {found}', flush=True)
         return found == wanted

@@ -17,9 +17,10 @@ SEED = 20_261_126
 FULL = 12_345
 NTLM = ('--login', 'ntlm', '--seed', '000102030405060708090a0b0c0d0e0f')
 # What is said: of a line that was changed, of any line, of another share, and of what is no journal.
-CHANGED, ANY_LINE = 'journal: line {}: changed since it was written\n', 'journal: line [0-9]+: .+\n'
-OTHER = 'journal: of another share: its first line names another name, label, guid, capacity, moment, limit or hello\n'
-NO_RECORDING = 'journal: no recording: its first line is not that of one\n'
+CHANGED, ANY_LINE = 'journal: line {}: changed since it was written: take a back-up of it\n', 'journal: line [0-9]+: .+\n'
+OTHER = ('journal: of another share: its first line names another name, label, guid, capacity, moment, limit or hello; '
+         'serve it as it was made, or `extract` its files\n')
+NO_RECORDING = 'journal: no recording: its first line is not that of one; name a file that --journal or --record made\n'
 
 
 def last_line(text):
@@ -186,7 +187,7 @@ def one_in_use_is_refused(program):
     """A second server on one journal, which the first one serves on; and on a record."""
     with tempfile.TemporaryDirectory() as folder:
         journal, record = os.path.join(folder, 'journal'), os.path.join(folder, 'record')
-        in_use = 'journal: in use by another program\n'
+        in_use = 'journal: in use by another program: end that one, or name another file\n'
         exists = (1, f'record: {record}: cannot be written: it exists already\n')
         with keeping(program, '--journal', journal) as share, keeping(program, '--record', record) as recorded:
             client = Looking(share).comes_in()

@@ -6,7 +6,7 @@ from tests.smb.kept import begins_to_keep, begun, bytes_of, extracted, keeping, 
 from tests.smb.program import GUEST
 
 MIB = 1 << 20
-NOT_TAKEN = 'not a name that the share takes'
+NOT_TAKEN, LONGER = 'not a name that the share takes: rename it', ': raise limits.file_bytes, or leave it out'
 # Names that a share takes, though they are odd.
 ODD = ('with blanks in it', ' at its start', 'at its end ', 'a dot.', '.hidden', '-n', "quote's", '100%', '#', '~',
        '$HOME', 'Gr\u00f6\u00dfe', 'Gro\u0308\u00dfe', '\u65e5\u672c\u8a9e', '\U0001f600', 'n' * 255, 'DESKTOP.INI',
@@ -97,8 +97,8 @@ def names_are_refused(program):
     return all([is_refused(program, NOT_TAKEN, 'x:y', named(b'x:y')),
                 is_refused(program, NOT_TAKEN, 'x\\y', named(b'x\\y')),
                 is_refused(program, NOT_TAKEN, 'x\\ny', named(b'x\ny')),
-                is_refused(program, 'not a name in Unicode', 'x\\xFF', named(b'x\xff')),
-                is_refused(program, 'another name differs from it in case alone', 'b', named(b'B', b'b'))])
+                is_refused(program, 'not a name in Unicode: rename it', 'x\\xFF', named(b'x\xff')),
+                is_refused(program, 'another name differs from it in case alone: rename one of both', 'b', named(b'B', b'b'))])
 
 
 def what_is_no_file_is_refused(program):
@@ -107,11 +107,11 @@ def what_is_no_file_is_refused(program):
         os.makedirs(os.path.join(source, 'x', 'y'))
         os.symlink('/', os.path.join(source, 'x', 'y', 'z'))
 
-    link = 'a symbolic link, which is not followed'
+    link = 'a symbolic link, which is not followed: take it out of the folder'
     return all([is_refused(program, link, 'b', lambda source: os.symlink('a', os.path.join(source, 'b'))),
                 is_refused(program, link, 'b', lambda source: os.symlink('nothing', os.path.join(source, 'b'))),
                 is_refused(program, link, 'x/y/z', below),
-                is_refused(program, 'neither a file nor a folder', 'b',
+                is_refused(program, 'neither a file nor a folder: take it out of the folder', 'b',
                            lambda source: os.mkfifo(os.path.join(source, 'b')))])
 
 
@@ -125,8 +125,8 @@ def what_is_too_long_is_refused(program):
         os.makedirs(os.path.join(source, deep))
 
     deep = '/'.join(['x'] * 33)
-    return all([is_refused(program, 'longer than 16,777,216 bytes', 'b', long),
-                is_refused(program, 'more than 32 names in its path', deep, nested)])
+    return all([is_refused(program, f'longer than 16,777,216 bytes{LONGER}', 'b', long),
+                is_refused(program, 'more than 32 names in its path: move it up', deep, nested)])
 
 
 def what_is_past_the_limits_is_refused(program):
@@ -142,10 +142,10 @@ def what_is_past_the_limits_is_refused(program):
 
     with tempfile.TemporaryDirectory() as folder:
         config = put(os.path.join(folder, 'config'), bytes_of(GUEST) + b'[limits]\nentries = 3\nfile_bytes = 5000\n')
-        many = 'more than 3 files and folders'
+        many = 'more than 3 files and folders: raise limits.entries, or leave it out'
         return all([is_refused(program, many, 'd', four, config=config), is_refused(program, many, 'b/d', below, config=config),
                     is_refused(program, many, 'd', four, False, config),
-                    is_refused(program, 'longer than 5,000 bytes', 'b',
+                    is_refused(program, f'longer than 5,000 bytes{LONGER}', 'b',
                                lambda source: put(os.path.join(source, 'b'), bytes(5001)), config=config)])
 
 
@@ -161,7 +161,7 @@ def a_folder_is_not_put_into_an_old_share(program):
         absent = begun(program, '--from', source + '2', '--journal', journal + '2')
         a_file = begun(program, '--from', journal, '--journal', journal + '2')
         found = exists, absent, a_file
-        wanted = ((1, 'journal: it exists already, so no folder can be put into it\n'),
+        wanted = ((1, 'journal: it exists already, so no folder can be put into it: leave --from out, or name another file\n'),
                   (1, f'folder: {source}2/: cannot be read: no such file\n'),
                   (1, f'folder: {journal}/: cannot be read: not a directory\n'))
         if found != wanted:
@@ -213,10 +213,10 @@ def an_extraction_is_refused(program):
         with keeping(program, '--journal', journal) as share:
             killed(share)
         there = (extracted(program, journal, folder), extracted(program, journal, text))
-        exist = tuple((1, f'folder: {name}/: it exists already\n') for name in (folder, text))
+        exist = tuple((1, f'folder: {name}/: it exists already: name a new folder\n') for name in (folder, text))
         piped = program.ran('extract', to, given=bytes_of(journal))
         no_file = (1, b'', 'journal: standard input is no file: give the recording by <\n')
-        no_recording = (1, 'journal: no recording: its first line is not that of one\n')
+        no_recording = (1, 'journal: no recording: its first line is not that of one; name a file that --journal or --record made\n')
         found = there, piped, extracted(program, text, to), extracted(program, empty, to)
         wanted = exist, no_file, no_recording, no_recording
         if found != wanted:

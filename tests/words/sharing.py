@@ -302,7 +302,7 @@ def folders_are_refused(program):
         linked = program.ran('share', *FREE, at, given=b'')
         with Shared(program, empty) as share:
             is_shared = share.comes_in('empty', 'somebody') is not None
-        return is_shared and not any([*wrong, differs(linked, (1, b'', f'folder: {at}/link: a symbolic link, which is not followed\n'), 'a link')])
+        return is_shared and not any([*wrong, differs(linked, (1, b'', f'folder: {at}/link: a symbolic link, which is not followed: take it out of the folder\n'), 'a link')])
 
 
 def limits_are_those_of_the_folder(program):
@@ -337,8 +337,9 @@ def journals_are_refused(program):
     with tempfile.TemporaryDirectory() as folder:
         at, empty, record = made(folder), put(os.path.join(folder, 'empty'), ''), os.path.join(folder, 'record')
         program.ran('serve', '--turns', '1', *FREE, '--record', record)
-        cases = ((empty, 'no recording: its first line is not that of one'), (os.path.join(at, 'a.txt'), 'no recording: its first line is not that of one'),
-                 (record, 'a record, and no journal'))
+        no_recording = 'no recording: its first line is not that of one; name a file that --journal or --record made'
+        cases = ((empty, no_recording), (os.path.join(at, 'a.txt'), no_recording),
+                 (record, 'a record, and no journal: name another file, or make a journal of it by `compact`'))
         return not any([differs(program.ran('share', *FREE, at, '--journal', name, given=b''), (1, b'', f'journal: {rule}\n'), name)
                         for name, rule in cases])
 

@@ -1,8 +1,8 @@
 //! The command `account`: changes a file of accounts, or lists it.
 
-use crate::fault::{AccountsFileFault, Fault};
 use smb_accounts_file::{Change, change_accounts, list_accounts, read_password};
 use smb_command_line::{AccountAction, AccountWords};
+use smb_command_parts::{AccountsFileFault, Fault};
 use smb_ntlm::{Account, nt_hash_of};
 use smb_replay::CommandFault;
 use std::io::{BufWriter, IsTerminal, Write};

@@ -1,9 +1,7 @@
 //! The command `check`: what `serve` would serve by a configuration and accounts, for whom, and within which limits.
 
-use crate::fault::Fault;
-use crate::login::{SERVED_SIGNING, read_accounts};
-use crate::notices::{Entrance, say_notices};
 use smb_command_line::{Login, Texts};
+use smb_command_parts::{Entrance, Fault, SERVED_SIGNING, read_accounts, say_notices};
 use smb_config::{Accounts, Configuration};
 use smb_ntlm::SigningMode;
 use smb_replay::{CommandFault, check_unsigned, signing_of};

@@ -1,11 +1,10 @@
-//! A journal written anew: by the command `compact`, and by `serve` before it begins.
+//! The command `compact`: a new journal of what a recording leaves.
 
-use crate::fault::Fault;
-use crate::login::random_seed;
 use crate::replaying::{STANDARD_INPUT, check_input};
-use smb_journal::{Form, Store};
-use smb_kept::{KeptFault, write_anew, write_journal};
-use smb_replay::{CommandFault, Detail};
+use smb_command_parts::{Fault, random_seed};
+use smb_journal::Store;
+use smb_kept::{KeptFault, write_journal};
+use smb_replay::CommandFault;
 use std::io;
 use std::io::{BufWriter, Write};
 
@@ -36,23 +35,5 @@ pub fn compact(rt: &HostRuntime) -> Result<(), Fault> {
         Ok(()) => Ok(()),
         Err(KeptFault::RecordFailed(_)) => Err(Fault::Command(CommandFault::OutputFailed)),
         Err(fault) => Err(Fault::Kept(fault)),
-    }
-}
-
-/// Writes a journal anew.
-fn write_journal_anew(rt: &HostRuntime, path: &str) -> Result<(), Fault> {
-    let token = random_seed()?;
-    match write_anew(rt, path, token) {
-        Ok(()) => Ok(()),
-        Err(fault) => Err(Fault::Kept(fault).of_file(rt.alloc(), Form::Journal, path)),
-    }
-}
-
-/// Writes a journal anew; where that can't be done, standard error says in one line why it is gone on with as it is.
-pub fn write_anew_or_say(rt: &HostRuntime, path: &str) {
-    if let Err(fault) = write_journal_anew(rt, path) {
-        let _ = eprint!(rt; "not written anew: ");
-        let mut errors = rt.stderr();
-        let _ = fault.report(rt.alloc(), Detail::Brief, &mut errors);
     }
 }

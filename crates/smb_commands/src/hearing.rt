@@ -1,8 +1,6 @@
 //! What hears a replay.
 
-use crate::fault::Fault;
-use crate::log_output::LogOutput;
-use crate::logging::{LogWords, log_of};
+use smb_command_parts::{Fault, LogOutput, LogWords, log_of};
 use smb_engine::{Answer, Event};
 use smb_log::Log;
 use smb_peers::{Acting, Ending, Observer, Responded, Usage};

@@ -1,12 +1,9 @@
 //! Events performed without serving a share: those of standard input, and those of a recording, whose answers are printed or
 //! whose files are taken out.
 
-use crate::fault::Fault;
 use crate::hearing::Hearing;
-use crate::logging::LogWords;
-use crate::login::{ntlm_of, random_seed, read_accounts};
-use crate::notices::say_cut;
 use smb_command_line::{Login, NtlmWords, Texts};
+use smb_command_parts::{Fault, LogWords, ntlm_of, random_seed, read_accounts, say_cut};
 use smb_config::Configuration;
 use smb_engine::{Answer, Authenticator, Event, HandleTable, NodeTree, Share, Tokens};
 use smb_journal::{Form, JournalFault, LimitedConfig, Mailbox, RecordedLogin};

@@ -13,38 +13,38 @@ use thiserror::Error;
 #[derive(Clone, Copy, Debug, PartialEq, Eq, Error)]
 pub enum FolderRule {
     /// A name of the system is not UTF-8, or one of the share has a surrogate alone.
-    #[error("not a name in Unicode")]
+    #[error("not a name in Unicode: rename it")]
     NotUnicode,
     /// The profile's rules of names refuse it (docs/PROFILE.md, "Names and paths").
-    #[error("not a name that the share takes")]
+    #[error("not a name that the share takes: rename it")]
     NotForTheShare,
     /// A name of the share that is no name of a file.
     #[error("not a name that a folder takes")]
     NotForTheFolder,
-    #[error("another name differs from it in case alone")]
+    #[error("another name differs from it in case alone: rename one of both")]
     SameName,
-    #[error("more than 32 names in its path")]
+    #[error("more than 32 names in its path: move it up")]
     TooDeep,
     /// Longer than the share's limits let a file be: so many bytes.
-    #[error("longer than {0} bytes")]
+    #[error("longer than {0} bytes: raise limits.file_bytes, or leave it out")]
     TooLong(Grouped),
-    #[error("no room in the share")]
+    #[error("no room in the share: raise capacity, or leave it out")]
     NoRoom,
     /// One more than the share's limits let there be.
-    #[error("more than {0} files and folders")]
+    #[error("more than {0} files and folders: raise limits.entries, or leave it out")]
     TooMany(Grouped),
-    #[error("a symbolic link, which is not followed")]
+    #[error("a symbolic link, which is not followed: take it out of the folder")]
     SymbolicLink,
     /// A socket, a pipe or a device.
-    #[error("neither a file nor a folder")]
+    #[error("neither a file nor a folder: take it out of the folder")]
     Special,
     /// It was made longer or shorter, was written, or gave way to another one.
-    #[error("it changed while it was read")]
+    #[error("it changed while it was read: try again while nobody writes there")]
     Changed,
     /// A time of an entry of a share: 0, or past 2^63 - 1.
     #[error("a time that no request can set")]
     NoTime,
-    #[error("it exists already")]
+    #[error("it exists already: name a new folder")]
     Exists,
     /// The system does not let it be read, for this reason.
     #[error("cannot be read: {0}")]

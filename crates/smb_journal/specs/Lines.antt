@@ -26,7 +26,7 @@ decimal_number digits =
 abbrev pub piece_of : List ℕ → Option (List ℕ)
 piece_of digits = if nat_lt 0 (length digits) then result_ok (decode_of digits) else None
 
--- what stands before the first blank, and what behind it
+-- what is before the first blank, and what behind it
 abbrev pub at_blank : List ℕ → Option (List ℕ × List ℕ)
 at_blank text = option_map (λ i. (take i text, drop (i + 1) text)) (position (λ c. c == 32) text)
 

@@ -16,31 +16,31 @@ pub enum JournalFault {
     #[error("cannot be written: {0}")]
     Unwritten(Reason),
     /// Another program writes to it.
-    #[error("in use by another program")]
+    #[error("in use by another program: end that one, or name another file")]
     InUse,
     /// It is there already, and was to be made.
-    #[error("it exists already, so no folder can be put into it")]
+    #[error("it exists already, so no folder can be put into it: leave --from out, or name another file")]
     Exists,
     /// It has to be read twice, and what is read as standard input is no file.
     #[error("standard input is no file: give the recording by <")]
     NoFile,
     /// It does not begin with the line that a recording begins with.
-    #[error("no recording: its first line is not that of one")]
+    #[error("no recording: its first line is not that of one; name a file that --journal or --record made")]
     NoRecording,
     /// It is text, and was to be gone on with.
-    #[error("a record, and no journal")]
+    #[error("a record, and no journal: name another file, or make a journal of it by `compact`")]
     NoJournal,
     /// Its first line names another share, or another way of login.
-    #[error("of another share: its first line names another name, label, guid, capacity, moment, limit or hello")]
+    #[error("of another share: its first line names another name, label, guid, capacity, moment, limit or hello; serve it as it was made, or `extract` its files")]
     OtherShare,
-    /// The line of this number can't be read, and others stand behind it.
-    #[error("line {0}: unreadable")]
+    /// The line of this number can't be read, and others are behind it.
+    #[error("line {0}: unreadable: take a back-up of it")]
     Unreadable(u64),
     /// The line of this number does not have the bytes that were written.
-    #[error("line {0}: changed since it was written")]
+    #[error("line {0}: changed since it was written: take a back-up of it")]
     Changed(u64),
     /// The event of this line is not one that the share can take.
-    #[error("line {0}: no event that can happen here")]
+    #[error("line {0}: no event that can happen here: take a back-up of it")]
     BadEvent(u64),
     #[error("no memory")]
     NoMemory,

@@ -60,7 +60,7 @@ const HELLO: &[u8] = b" hello=";
 #[derive(Debug, Drop)]
 pub struct Header {
     pub form: Form,
-    /// The share's name, label, GUID, capacity, moment and limits, as they stand in the line.
+    /// The share's name, label, GUID, capacity, moment and limits, as they are in the line.
     share: Vec<u8>,
     /// Whether each session that is signed has to sign its requests, which a NEGOTIATE response says.
     pub signing_required: bool,

@@ -58,7 +58,7 @@ impl<R: Read + Drop> Lines<R> {
         self.offset
     }
 
-    /// How many bytes stand behind the last whole line: those of a last line that is cut, once [`Lines::next_line`] has given
+    /// How many bytes are behind the last whole line: those of a last line that is cut, once [`Lines::next_line`] has given
     /// None.
     pub fn left_out(&self) -> u64 {
         self.bytes.len().saturating_sub(self.start) as u64

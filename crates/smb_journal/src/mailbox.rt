@@ -114,7 +114,7 @@ impl Mailbox {
         self.lost.get()
     }
 
-    /// Gives the lines in exchange for a vector without any, and tells whether that was done. It takes no memory.
+    /// Gives the lines in exchange for a vector without any, and returns whether that was done. It takes no memory.
     pub(crate) fn take(&self, into: &mut Vec<u8>) -> bool {
         match self.lines.try_borrow_mut() {
             Ok(mut lines) => {

@@ -81,7 +81,7 @@ impl<'a, P: Peers + Drop, C: Clock + Drop, S: Store + Drop> RecordedPeers<'a, P,
         }
     }
 
-    /// Records all that is not recorded yet, and tells whether all is.
+    /// Records all that is not recorded yet, and returns whether all is.
     pub fn record_rest(&mut self) -> bool
         ensures { self.new.peers ≡ self.old.peers }
     {

@@ -201,7 +201,7 @@ impl<S: Store + Drop> Recorder<S> {
         }
     }
 
-    /// Has what was written settled, where it is to be, and tells whether all of it is kept.
+    /// Has what was written settled, where it is to be, and returns whether all of it is kept.
     pub fn settle(&mut self) -> bool {
         if self.settles && self.is_dirty && !self.has_failed() {
             if let Err(error) = self.store.settle() {

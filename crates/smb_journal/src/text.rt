@@ -15,7 +15,7 @@ use std::io::Write;
 /// How many bytes are written as hex at a time.
 const HEX_PART: usize = 512;
 
-/// Where a character stands first.
+/// The first place of a character.
 pub fn place_of(character: u8, text: &[u8]) -> Option<usize>
     ensures place { result ≡ position (λ c. c == character) text.now }
     ensures within { IfSome result (λ i. i < length text.now) }
@@ -23,7 +23,7 @@ pub fn place_of(character: u8, text: &[u8]) -> Option<usize>
     text.iter().position(|c| *c == character)
 }
 
-/// What stands before the first blank, and what behind it.
+/// What is before the first blank, and what behind it.
 pub(crate) fn at_blank(text: &[u8]) -> Option<(&[u8], &[u8])>
     ensures { option_map (λ parts. (parts.0.now, parts.1.now)) result ≡ at_blank text.now }
 {
@@ -31,7 +31,7 @@ pub(crate) fn at_blank(text: &[u8]) -> Option<(&[u8], &[u8])>
     Some((&text[..blank], &text[blank + 1..]))
 }
 
-/// What stands before the last place of these bytes, and what behind it.
+/// What is before the last place of these bytes, and what behind it.
 pub(crate) fn at_last<'a>(bytes: &[u8], text: &'a [u8]) -> Option<(&'a [u8], &'a [u8])> {
     for place in (0..text.len()).rev() {
         if let Some(back) = text.get(place..)?.strip_prefix(bytes) {
@@ -70,7 +70,7 @@ pub(crate) fn number_of(digits: &[u8]) -> Option<u64>
     spelled(digits)
 }
 
-/// A connection's number, a moment, and what stands behind them: `N MOMENT ..`.
+/// A connection's number, a moment, and what is behind them: `N MOMENT ..`.
 pub(crate) fn piece_parts(text: &[u8]) -> Option<(u64, u64, &[u8])>
     ensures { option_map (λ parts. (parts.0, parts.1, parts.2.now)) result ≡ piece_parts text.now }
 {

@@ -100,7 +100,7 @@ fn is_read(reply: &Reply<'_>, id: u64, charge: u16, data: &[u8]) -> bool {
         && reply.data() == Some(data)
 }
 
-/// Whether five replies stand before so many to the READs, and nothing behind these.
+/// Whether five replies are before so many to the READs, and nothing behind these.
 fn are_read(heard: &[u8], count: usize, file: &[u8]) -> bool {
     let mut replies = Replies::of(heard);
     for _ in 0..5 {

@@ -59,7 +59,7 @@ impl Write for Full {
     }
 }
 
-/// Whether a replay of an input has this status, prints nothing and tells this.
+/// Whether a replay of an input has this status, prints nothing and reports this.
 fn replay_stops<R: Read + Drop>(
     alloc: Global,
     config: &str,
@@ -73,7 +73,7 @@ fn replay_stops<R: Read + Drop>(
     found == status && out.is_empty() && err.as_slice() == told.as_bytes()
 }
 
-/// Whether the listing of an input has this status, prints nothing and tells this.
+/// Whether the listing of an input has this status, prints nothing and reports this.
 fn show_stops<R: Read + Drop>(alloc: Global, input: R, status: u8, told: &str) -> bool {
     let mut out = Vec::new(alloc);
     let mut err = Vec::new(alloc);
@@ -124,7 +124,7 @@ fn a_configuration_is_refused_first(rt: HostRuntime) {
     assert!(rt; replay_stops(rt.alloc(), "share = 1", input, 1, told));
 }
 
-/// Whether a replay tells that its writer fails.
+/// Whether a replay reports that its writer fails.
 fn replay_is_cut(alloc: Global, calls: u32) -> bool {
     let mut out = Full { calls };
     let mut err = Vec::new(alloc);
@@ -133,7 +133,7 @@ fn replay_is_cut(alloc: Global, calls: u32) -> bool {
     status == 1 && err.as_slice() == b"output: failed\n".as_slice()
 }
 
-/// Whether a listing tells that its writer fails.
+/// Whether a listing reports that its writer fails.
 fn show_is_cut(alloc: Global) -> bool {
     let mut out = Full { calls: 0 };
     let mut err = Vec::new(alloc);

@@ -1,7 +1,7 @@
 //! What a log says that no replay brings about: ends of all kinds, users of all names, moments, a write that fails, and peers.
 
 use smb_engine::{Config, HandleTable, NodeTree, Share, Tokens, User};
-use smb_log::{ConnectionFacts, Ending, Level, Log, LogObserver, LoggedPeers};
+use smb_log::{ConnectionFacts, Ending, KeptOut, Level, Log, LogObserver, LoggedPeers};
 use smb_log_text::{put_moment, put_user};
 use smb_peers::{ListClock, Usage};
 use smb_serving::{MemoryPeers, PeerStep, SendStep, serve_until_observed};
@@ -210,6 +210,10 @@ impl ConnectionFacts for NoFacts {
 
     fn ending(&self, _number: u64) -> Ending {
         Ending::ByClient
+    }
+
+    fn take_kept_out(&self, _address: &mut String) -> Option<KeptOut> {
+        None
     }
 }
 

@@ -293,7 +293,7 @@ fn quick_client(alloc: Global) -> Option<MemoryPeers> {
     peers(alloc, one_client(alloc)?, SendStep::Takes(200), 1)
 }
 
-/// Whether an answer tells the clock's moment, also one before 1970.
+/// Whether an answer has the clock's moment, also one before 1970.
 fn tells_an_early_moment(alloc: Global, peers: &mut MemoryPeers) -> bool {
     serves_anew(alloc, peers, 5, 10)
         && peers.taken(1, 108) == Some(5)

@@ -9,7 +9,7 @@ use std::io;
 use std::io::{Read, Write};
 use std::net::{TcpListener, TcpStream};
 
-/// Where the moment stands in the frame that answers a NEGOTIATE.
+/// Where the moment is in the frame that answers a NEGOTIATE.
 const MOMENT_AT: usize = 108;
 
 /// A client of a listener, which has sent a frame.

@@ -108,7 +108,7 @@ const MOST_OWED: usize = 24_000_000;
 
 const SENT: [usize; 3] = [10_000_000, 16_000_000, 12_000_000];
 
-/// Sends to three clients that take nothing, and tells whether the one that is owed most has ended, and no other one.
+/// Sends to three clients that take nothing, and returns whether the one that is owed most has ended, and no other one.
 fn the_most_owed_ends(rt: &HostRuntime) -> io::Result<bool> {
     let listener = TcpListener::bind(rt, "127.0.0.1:0")?;
     let address = listener.local_addr()?;

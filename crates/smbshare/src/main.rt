@@ -4,12 +4,13 @@
 use clap::ArgMatches;
 use clap::error::ErrorKind as WordFault;
 use smb_command_line::{CommandLine, Login, Texts, account_of, command, login_of};
-use smb_commands::{
-    Fault, Form, KeepWords, Level, LogWords, ServeWords, SharingWords, TcpFacts, account, check,
-    compact, extract, print_recording, replay_input, serve_share, share_folder,
-};
+use smb_command_parts::{Fault, Level, LogWords};
+use smb_commands::{account, check, compact, extract, print_recording, replay_input};
 use smb_config::BUILT_IN;
 use smb_replay::{CommandFault, Detail, Given, ReplayWords, hash_password, show_fields, show_text};
+use smb_serve_command::{
+    Form, KeepWords, ServeWords, SharingWords, TcpFacts, serve_share, share_folder,
+};
 use std::io::{BufWriter, ErrorKind, IsTerminal};
 use std::process::ExitCode;
 
@@ -165,6 +166,8 @@ fn serve_words<'a>(
         texts,
         login,
         listen: words.get_strs("listen").unwrap_or(&[]),
+        hosts: words.get_str("hosts"),
+        per_address: words.get_one("per-address"),
         turns: words.get_one("turns").unwrap_or(u64::MAX),
         idle_seconds: words.get_one("idle").unwrap_or(3600),
         unanswered_seconds: words.get_one("idle-new").unwrap_or(30),
@@ -204,6 +207,8 @@ fn share_with_clients(rt: &HostRuntime, words: &ArgMatches<'_>) -> ExitCode {
         guests: words.get_flag("guests"),
         capacity: words.get_str("capacity"),
         listen: words.get_strs("listen").unwrap_or(SHARED_AT),
+        hosts: words.get_str("hosts"),
+        per_address: words.get_one("per-address"),
         journal: words.get_str("journal"),
     };
     let ended = share_folder(rt, sharing, &facts);

@@ -1,11 +1,9 @@
 //! The command `share`: a folder's files to clients over TCP, by a configuration and accounts that are made for them.
 
-use crate::fault::Fault;
 use crate::logging::TcpFacts;
-use crate::login::random_seed;
-use crate::machine::memory;
 use crate::serve::{ServeWords, serve_share};
 use smb_command_line::{Login, NtlmWords, Texts};
+use smb_command_parts::{Fault, hosts_of, memory, random_seed};
 use smb_journal::{Form, JournalFault, LimitedConfig, Lines};
 use smb_kept::{KeepWords, KeptFault};
 use smb_ntlm::Account;
@@ -169,6 +167,8 @@ fn serve_words<'a>(
             signing: None,
         }),
         listen: words.listen,
+        hosts: words.hosts,
+        per_address: words.per_address,
         turns: u64::MAX,
         idle_seconds: IDLE_SECONDS,
         unanswered_seconds: UNANSWERED_SECONDS,
@@ -193,6 +193,7 @@ pub fn share_folder(
 ) -> Result<(), Fault> {
     let alloc = rt.alloc();
     let wanted = Wanted::of(alloc, words)?;
+    drop(hosts_of(alloc, words.hosts)?);
     let found = found_for(rt, words)?;
     let goes_on = matches!(found, Found::Journal(..));
     let Plan { config, said } = Plan::new(alloc, words, &wanted, found, random_seed()?)?;

@@ -1,14 +1,14 @@
 //! The command `serve`: a share to clients over TCP.
 
 use crate::clock::ServeClock;
-use crate::compaction::write_anew_or_say;
-use crate::fault::Fault;
-use crate::logging::{LogWords, ServedLog, ServedPeers, TcpFacts, served_log};
-use crate::login::{SERVED_SIGNING, ntlm_of, read_accounts};
-use crate::notices::{Entrance, say_notices};
+use crate::logging::{ServedLog, ServedPeers, TcpFacts, served_log};
 use crate::served_record::{Serving, serve_folder, serve_recorded, serve_recorded_folder};
+use crate::shortening::write_anew_or_say;
 use mio::net::TcpListener;
 use smb_command_line::{Login, NtlmWords, Texts};
+use smb_command_parts::{
+    Entrance, Fault, LogWords, SERVED_SIGNING, hosts_of, ntlm_of, read_accounts, say_notices,
+};
 use smb_config::Configuration;
 use smb_engine::{Authenticator, HandleTable, NodeTree, Share};
 use smb_journal::LimitedConfig;
@@ -36,6 +36,10 @@ pub struct ServeWords<'a> {
     pub login: Login,
     /// IP addresses with a port.
     pub listen: &'a [&'a str],
+    /// Who may connect, IP addresses and networks apart by commas; everyone where there is none.
+    pub hosts: Option<&'a str>,
+    /// How many clients of one address may be connected, where that is limited.
+    pub per_address: Option<u64>,
     pub turns: u64,
     /// After how many seconds a connection ends that says nothing and takes nothing; 0: after none.
     pub idle_seconds: u64,
@@ -150,11 +154,17 @@ fn peers_of<'a>(
     words: &ServeWords<'a>,
     connections: u64,
     listeners: Vec<net::TcpListener>,
-) -> Result<TcpPeers<'a, HostRuntime>, CommandFault> {
+) -> Result<TcpPeers<'a, HostRuntime>, Fault> {
     let mut peers = match waiting_peers(rt, connections, listeners) {
         Ok(peers) => peers,
-        Err(error) => return Err(fault_of(error)),
+        Err(error) => return Err(Fault::from(fault_of(error))),
     };
+    if let Some(networks) = hosts_of(rt.alloc(), words.hosts)? {
+        peers = peers.with_networks(networks);
+    }
+    if let Some(limit) = words.per_address {
+        peers = peers.with_address_limit(limit as usize);
+    }
     if words.idle_seconds > 0 {
         peers = peers.with_idle_limit(Duration::from_secs(words.idle_seconds));
     }
@@ -248,7 +258,7 @@ fn serve_new<A: Authenticator + Drop>(
     }
 }
 
-/// Serves a share. Whether it can listen is tried before anything is made.
+/// Serves a share. Who may connect is looked at, and whether it can listen tried, before anything is made.
 fn serve_by<A: Authenticator + Drop>(
     rt: &HostRuntime,
     words: &ServeWords<'_>,
@@ -262,6 +272,7 @@ fn serve_by<A: Authenticator + Drop>(
         entrance,
         limits: limited.limits,
     };
+    drop(hosts_of(rt.alloc(), words.hosts)?);
     drop(listen_all(rt, words.listen)?);
     match (words.record, words.from) {
         (Some(record), Some(folder)) => {

@@ -1,5 +1,6 @@
 //! What ends the program, and what is printed of it.
 
+use crate::hosts::HostsFault;
 use smb_accounts_file::{AccountsFault, PasswordFault};
 use smb_config::ConfigFault;
 use smb_folder::FolderFault;
@@ -22,6 +23,8 @@ pub enum Fault {
     Listen(AddressFault),
     /// The share cannot listen at so many addresses.
     TooManyAddresses,
+    /// A list of who may connect is not taken.
+    Hosts(HostsFault),
     /// A folder cannot be shared.
     Sharing(SharingFault),
     /// A file that a share is recorded in can't be read or written.
@@ -99,7 +102,7 @@ fn file_fault_of(fault: &KeptFault) -> Option<JournalFault> {
 
 impl AccountsFileFault {
     /// A fault with the name of its file; of want of memory the fault of commands.
-    pub(crate) fn of(alloc: Global, path: &str, fault: AccountsFault) -> Fault {
+    pub fn of(alloc: Global, path: &str, fault: AccountsFault) -> Fault {
         match (String::from_str(alloc, path), fault) {
             (_, AccountsFault::NoMemory) | (Err(_), _) => Fault::Command(CommandFault::NoMemory),
             (Ok(path), fault) => Fault::Accounts(AccountsFileFault { path, fault }),
@@ -135,7 +138,7 @@ impl RecordingFault {
 
 impl Fault {
     /// The same fault with the name of its file, where it is that the file of a recording can't be read or written.
-    pub(crate) fn of_file(self, alloc: Global, form: Form, path: &str) -> Fault {
+    pub fn of_file(self, alloc: Global, form: Form, path: &str) -> Fault {
         let Fault::Kept(kept) = &self else {
             return self;
         };
@@ -149,7 +152,7 @@ impl Fault {
     }
 
     /// The same fault with the address that it is of, where it is that the share cannot listen.
-    pub(crate) fn of_address(self, alloc: Global, address: &str) -> Fault {
+    pub fn of_address(self, alloc: Global, address: &str) -> Fault {
         let Fault::Command(CommandFault::ListenFailed(fault)) = &self else {
             return self;
         };
@@ -179,6 +182,10 @@ impl Fault {
                     errors,
                     "listen: too many addresses: give at most {MOST_LISTENERS}"
                 );
+                1
+            }
+            Fault::Hosts(fault) => {
+                fault.report(errors);
                 1
             }
             Fault::Sharing(SharingFault::NoMemory) => {

@@ -1,10 +1,9 @@
 //! A share that is served and recorded, or that begins with the files of a folder.
 
 use crate::clock::ServeClock;
-use crate::fault::Fault;
 use crate::logging::{ServedLog, ServedPeers, served_log};
-use crate::notices::{Entrance, say_cut};
 use crate::serve::{ServeWords, Served, end_of, listening_peers, serve_peers};
+use smb_command_parts::{Entrance, Fault, say_cut};
 use smb_engine::Authenticator;
 use smb_journal::{
     Form, GivenAnswer, LimitedConfig, Mailbox, RecordedClock, RecordedPeers, Recorder, Store,

@@ -1,39 +1,12 @@
-//! The log of a share: how much it has, and what is known of clients.
+//! The log of a served share, and what is known of its clients.
 
 use crate::clock::ServeClock;
-use crate::fault::Fault;
-use crate::log_output::LogOutput;
-use smb_log::{ConnectionFacts, Ending, Level, Log, LoggedPeers};
+use smb_command_parts::{Fault, LogOutput, LogWords, log_of};
+use smb_log::{ConnectionFacts, Ending, KeptOut, Log, LoggedPeers};
 use smb_tcp::{GivenUp, PeerFacts, TcpPeers};
 use smb_wire::limits::Limits;
 use std::alloc::{AllocError, Global};
 use std::cell::RefCell;
-
-/// What the words of a command say of a log.
-#[derive(Clone, Copy)]
-pub struct LogWords<'a> {
-    /// A file, or `-` for standard error.
-    pub path: &'a str,
-    pub level: Level,
-    /// Whether the share is served no more where a line can't be written.
-    pub must: bool,
-}
-
-/// The log that the words ask for, of a share of these limits, which begins at a moment, and whose first line is written; None where
-/// they ask for none.
-pub fn log_of<'a>(
-    rt: &'a HostRuntime,
-    words: Option<LogWords<'a>>,
-    limits: Limits,
-    moment: u64,
-) -> Result<Option<Log<LogOutput<'a>>>, Fault> {
-    let Some(words) = words else {
-        return Ok(None);
-    };
-    let output = LogOutput::open(rt, words.path)?;
-    let log = Log::new(rt.alloc(), output, words.level, moment);
-    Ok(Some(log.with_connections(limits.connections)))
-}
 
 /// What is known of the connections of TCP peers.
 #[derive(Drop)]
@@ -55,6 +28,17 @@ impl ConnectionFacts for TcpFacts {
             Some(GivenUp::OwedMost) => Ending::OwedMost,
             None => Ending::ByClient,
         }
+    }
+
+    fn take_kept_out(&self, text: &mut String) -> Option<KeptOut> {
+        let (address, why) = self.peers.take_kept_out()?;
+        if write!(text, "{address}").is_err() {
+            text.clear();
+        }
+        Some(match why {
+            smb_tcp::KeptOut::Network => KeptOut::Hosts,
+            smb_tcp::KeptOut::Address(most) => KeptOut::Address(most),
+        })
     }
 }
 
