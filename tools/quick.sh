@@ -58,7 +58,8 @@ run_stored() {
 the_program() {
     bash tools/serve.sh --build > /dev/null || return
     run_stored
-    python3 -m tests.run --unproved --jobs 2 --count 200 serving load hostile words keeping logging captures conform
+    python3 -m tests.run --unproved --jobs 2 --count 200 serving load hostile words keeping logging captures conform \
+        packages
 }
 
 # How many tasks run side by side: one a processor, and one for each 2 GB of memory that is free.
