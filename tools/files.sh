@@ -21,4 +21,5 @@ python3 tools/edits.py --check || fail 'docs/EDITS.md is not what tools/edits.py
 python3 tools/believed.py --check || fail 'docs/DEFINITIONS.md does not name what a reader must believe.'
 python3 tools/bodies.py --check || fail 'docs/BODIES.md is not what tools/bodies.py writes.'
 python3 tools/lib/documents.py || fail 'A document names what is not there, or two say the same.'
+python3 tools/lib/wording.py || fail 'More comments hide what they name, or more lines are too long.'
 python3 tools/frame.py check crates/smb_rows/stdin || fail 'tools/frame.py does not agree with the rows.'

@@ -11,7 +11,7 @@ pub enum ConfigRule {
     Size,
     /// The file is a text.
     Text,
-    /// What is wrong begins in the line of this number, where the reader tells.
+    /// What is wrong begins in the line of this number, where the reader says.
     Toml(Option<usize>),
     /// Which keys there are.
     Keys,

@@ -70,7 +70,7 @@ fn begun_bytes(rt: &HostRuntime, path: &str, header: &Header) -> Result<Option<u
     Ok(is_begun.then_some(bytes.len() as u64))
 }
 
-/// Takes off what a file has that has the beginning of a first line alone, and tells how many bytes these were; None of a file that is
+/// Takes off what a file has that has the beginning of a first line alone, and returns how many bytes these were; None of a file that is
 /// to be gone on with.
 fn cut_begun(
     rt: &HostRuntime,

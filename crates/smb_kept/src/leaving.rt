@@ -82,7 +82,7 @@ pub(crate) fn new_left<'m>(
     Ok(Left { share, leaving })
 }
 
-/// Performs a recording on its share, ends all connections, and tells how many bytes of a cut last line were left out.
+/// Performs a recording on its share, ends all connections, and returns how many bytes of a cut last line were left out.
 pub(crate) fn leave<A: Authenticator + Drop, T: Tree + Drop, O: Opens + Drop>(
     rt: &HostRuntime,
     file: &str,

@@ -181,7 +181,7 @@ impl Performed {
 ///
 /// # Errors
 /// Those of [`Lines::next_line`]; [`JournalFault::BadEvent`] where an event can't happen, with its line; and
-/// [`JournalFault::NoMemory`]. What stands before was performed.
+/// [`JournalFault::NoMemory`]. What is before was performed.
 pub fn perform<A: Authenticator + Drop, T: Tree + Drop, O: Opens + Drop, R: Read + Drop, H: Hears>(
     alloc: Global,
     share: &mut Share<A, T, O>,

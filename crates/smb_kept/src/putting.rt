@@ -68,7 +68,7 @@ impl<
         Ok(connection)
     }
 
-    /// Ends the connection, and tells why not all of it is recorded; None where all of it is.
+    /// Ends the connection, and returns why not all of it is recorded; None where all of it is.
     fn end(&mut self, connection: u64) -> Option<Reason> {
         self.recorder.ended(connection);
         self.share.ended(connection);

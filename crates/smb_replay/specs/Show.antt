@@ -111,7 +111,7 @@ frame_fault_number NoMemory = 4
 abbrev pub no_frame : ℕ → FrameFault → List ℕ
 no_frame frame fault = decimal frame ++ codes ": F" ++ decimal (frame_fault_number fault) ++ 10 ∷ []
 
--- what stands behind the last whole frame: its fault, or how many bytes it has, if any
+-- what is behind the last whole frame: its fault, or how many bytes it has, if any
 unfoldable pub rest_lines : ℕ → List ℕ → ListingText
 rest_lines frame bytes =
     option_map_or (λ fault. last_line (no_frame frame fault)) (fault_of longest_payload bytes) (

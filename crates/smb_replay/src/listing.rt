@@ -62,7 +62,7 @@ fn put_requests(
     Ok(())
 }
 
-/// Adds the lines of a payload. Ok tells whether nothing is wrong with it.
+/// Adds the lines of a payload. Ok says whether nothing is wrong with it.
 fn put_payload(
     alloc: Global,
     frame: u64,
@@ -86,7 +86,7 @@ fn put_payload(
     }
 }
 
-/// Adds the line of what is behind the last whole frame. Ok tells whether nothing is.
+/// Adds the line of what is behind the last whole frame. Ok says whether nothing is.
 fn put_rest(frame: u64, buffer: &FrameBuffer, text: &mut String) -> Result<bool, AllocError> {
     if let Some(fault) = buffer.fault() {
         let number = fault_number(fault);
@@ -210,7 +210,7 @@ fn list(alloc: Global, text: Vec<u8>) -> Result<Option<Listing>, AllocError> {
     }
 }
 
-/// Shows an input with fields. Ok tells whether nothing is wrong in it.
+/// Shows an input with fields. Ok says whether nothing is wrong in it.
 fn show<R: Read + Drop, W: Write>(
     alloc: Global,
     input: R,

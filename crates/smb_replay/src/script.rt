@@ -85,7 +85,7 @@ impl Script {
         }
     }
 
-    /// Adds what a line says, and tells whether the next line is to be read.
+    /// Adds what a line says, and returns whether the next line is to be read.
     fn add(
         &mut self,
         number: u64,

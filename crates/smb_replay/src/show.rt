@@ -135,7 +135,7 @@ fn put_chain(frame: u64, chain: &Chain<'_>, text: &mut String) -> Result<(), All
     Ok(())
 }
 
-/// Adds the lines of a payload. Ok tells whether nothing is wrong with it.
+/// Adds the lines of a payload. Ok says whether nothing is wrong with it.
 #[tactic(auto, unfolding(crate::specs::Show::payload_lines))]
 fn put_payload(frame: u64, payload: &[u8], text: &mut String) -> Result<bool, AllocError>
     ensures text { OnOk result (string_bytes text.new ≡ string_bytes text.old ++ (payload_lines frame payload.now).text) }
@@ -170,7 +170,7 @@ pub(crate) fn fault_number(fault: FrameFault) -> u8
     }
 }
 
-/// Adds the line of what stands behind the last whole frame. Ok tells whether nothing does.
+/// Adds the line of what is behind the last whole frame. Ok says whether nothing is.
 #[tactic(auto, unfolding(crate::specs::Show::rest_lines))]
 fn put_rest(frame: u64, buffer: &FrameBuffer, text: &mut String) -> Result<bool, AllocError>
     requires { buffer.now.limit ≡ longest_payload }
@@ -220,7 +220,7 @@ fn list_stream(alloc: Global, stream: &[u8]) -> Result<Listing, AllocError>
     Ok(Listing { text, is_good })
 }
 
-/// Shows the stream of an input. Ok tells whether nothing is wrong in it.
+/// Shows the stream of an input. Ok says whether nothing is wrong in it.
 fn show<R: Read + Drop, W: Write>(
     alloc: Global,
     input: R,
@@ -242,7 +242,7 @@ fn show<R: Read + Drop, W: Write>(
 ///
 /// The input is the stream in hex, in either case; white space is passed over. `output` gets a line
 /// `F.R NAME mid=M` for the R-th request of the F-th frame, with ` unreadable` behind it where its body cannot
-/// be read, or `1 smb1 negotiate`. The first fault is the last line, and so is `rest N` where N bytes stand
+/// be read, or `1 smb1 negotiate`. The first fault is the last line, and so is `rest N` where N bytes are
 /// behind the last frame. `errors` gets what is wrong with the input as a text, and then `output` gets nothing.
 /// The status is 0 where every byte belongs to a frame without a fault, 3 for want of memory, and else 1.
 pub fn show_text<R: Read + Drop, W: Write, E: Write>(

@@ -136,7 +136,7 @@ module _ {S : Type 0} (authenticator : Meaning S) where
       ≡ reply_spelling (answers_read (file_bytes it.server.store (open_asked it) asked.offset asked.length)))
       × ((answered authenticator it).server ≡ it.server)
 
-  -- a WRITE that succeeds leaves its bytes in the file of its open, at its offset, and tells how many (3.3.5.13)
+  -- a WRITE that succeeds leaves its bytes in the file of its open, at its offset, and returns how many (3.3.5.13)
   abbrev pub AWriteIsInTheFile : Type 0
   AWriteIsInTheFile =
       (it : Sent S) (asked : WriteAsked) → Succeeds it (answered authenticator it) (asks_write asked) →

@@ -10,7 +10,7 @@ fn first_difference(wanted: &str, found: &str) -> usize {
     same / 2
 }
 
-/// What stands behind the last blank of a line: the frame's hex.
+/// What is behind the last blank of a line: the frame's hex.
 fn frame_of(line: &str) -> &str {
     match line.rsplit_once(' ') {
         Some((_, frame)) => frame,

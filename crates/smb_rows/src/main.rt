@@ -125,7 +125,7 @@ enum Printing {
     Reasons,
 }
 
-/// Plays the rows of a text, and tells whether all are well.
+/// Plays the rows of a text, and returns whether all are well.
 fn play_rows(rt: &HostRuntime, text: &str, printing: Printing) -> Result<bool, AllocError> {
     let book = Book::read(rt.alloc(), text)?;
     if let Some((line, fault)) = book.fault {

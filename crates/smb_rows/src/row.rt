@@ -166,7 +166,7 @@ impl Row {
         self.input.push_str(" ")
     }
 
-    /// Adds pieces on a connection: the bytes of words, cut where a word `|` stands.
+    /// Adds pieces on a connection: the bytes of words, cut where a word `|` is.
     fn add_pieces(&mut self, rest: &str, words: Words<'_>) -> Result<(), RowFault> {
         let (connection, bytes) = rest.split_once(' ').ok_or(RowFault::UnknownLine)?;
         self.begin_piece(connection)?;
@@ -208,7 +208,7 @@ impl Row {
         Ok(())
     }
 
-    /// Adds a line of output as it stands.
+    /// Adds a line of output as it is.
     fn add_output(&mut self, line: &str) -> Result<(), RowFault> {
         self.output.push_str(line)?;
         self.output.push_str("\n")?;

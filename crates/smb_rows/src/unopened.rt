@@ -33,7 +33,7 @@ impl Unopened {
         Some(connection.saturating_sub(before.count() as u64))
     }
 
-    /// Gives an event the number that the share has for its connection, and tells whether that was opened.
+    /// Gives an event the number that the share has for its connection, and returns whether that was opened.
     pub(crate) fn renumber(&self, event: &mut Event) -> bool {
         let Some(number) = self.number_of(event.connection()) else {
             return false;

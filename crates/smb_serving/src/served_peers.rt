@@ -45,7 +45,7 @@ impl ServedPeers {
         }
     }
 
-    /// Makes room for a peer more and for its place, and tells whether it could.
+    /// Makes room for a peer more and for its place, and returns whether it could.
     pub(crate) fn make_room(&mut self) -> bool
         ensures peers { self.new.peers.items ≡ self.old.peers.items }
         ensures restless { self.new.restless.items ≡ self.old.restless.items }

@@ -55,7 +55,7 @@ fn begin<A: Authenticator + Drop, T: Tree + Drop, O: Opens + Drop>(
     }
 }
 
-/// Takes the opening of a number, and tells whether memory ran out.
+/// Takes the opening of a number, and returns whether memory ran out.
 fn open_peer<A: Authenticator + Drop, T: Tree + Drop, O: Opens + Drop, P: Peers>(
     share: &mut Share<A, T, O>,
     peers: &mut P,
@@ -85,7 +85,7 @@ fn open_peer<A: Authenticator + Drop, T: Tree + Drop, O: Opens + Drop, P: Peers>
     }
 }
 
-/// Takes a piece of a number's stream, and tells after how many requests memory ran out, where it did.
+/// Takes a piece of a number's stream, and returns after how many requests memory ran out, where it did.
 fn take_bytes<A: Authenticator + Drop, T: Tree + Drop, O: Opens + Drop, C: Clock, W: Observer>(
     share: &mut Share<A, T, O>,
     clock: &mut C,
@@ -158,7 +158,7 @@ fn next_event<A: Authenticator + Drop, T: Tree + Drop, O: Opens + Drop, P: Peers
     peers.next()
 }
 
-/// Takes the next event, and tells whether memory ran out.
+/// Takes the next event, and returns whether memory ran out.
 fn take_event<
     A: Authenticator + Drop,
     T: Tree + Drop,
@@ -200,7 +200,7 @@ fn take_event<
     }
 }
 
-/// Sends a peer what it is owed, and tells whether the send was done: where it failed, the connection has ended.
+/// Sends a peer what it is owed, and returns whether the send was done: where it failed, the connection has ended.
 fn send_owed<A: Authenticator + Drop, T: Tree + Drop, O: Opens + Drop, P: Peers>(
     share: &mut Share<A, T, O>,
     peers: &mut P,
@@ -228,7 +228,7 @@ fn send_owed<A: Authenticator + Drop, T: Tree + Drop, O: Opens + Drop, P: Peers>
     }
 }
 
-/// Closes a peer that does not stay, and tells whether it does.
+/// Closes a peer that does not stay, and returns whether it does.
 fn settle<A: Authenticator + Drop, T: Tree + Drop, O: Opens + Drop, P: Peers>(
     share: &Share<A, T, O>,
     peers: &mut P,
@@ -403,7 +403,7 @@ fn turn<A: Authenticator + Drop, T: Tree + Drop, O: Opens + Drop, P: Peers, C: C
     ran_out
 }
 
-/// Serves a share to its peers for so many turns, and tells how often memory ran out.
+/// Serves a share to its peers for so many turns, and returns how often memory ran out.
 ///
 /// A turn is the next event of the peers, and then a send to each peer that is owed bytes. Where memory runs out in a piece,
 /// or at an opening, that peer is closed, and the others are served on.
