@@ -26,6 +26,7 @@ TAKEN = 'an account before it has this name, whatever the case of its letters: s
 GUEST_NAME = 'the name of guests, who have no password: say another one, or --guests to let them in'
 FREE = ('--listen', '127.0.0.1:0')
 TEXT = b'hello'
+GUESTS = 'guests are not signed: Windows lets them in where it allows insecure guest logons\n'
 
 
 class Shared(Served):
@@ -119,7 +120,7 @@ def a_folder_is_shared_with_guests(program):
             said = ''.join(share.said)
         wanted = (f'share docs: 3 files and folders of {at}/, 12288 bytes of 67121152\n', 'for everyone on this machine, as a guest',
                   f'smbclient -N //127.0.0.1/docs -p {share.port}\n', f'port={share.port},vers=2.1,guest\n',
-                  'net use Z: \\\\127.0.0.1\\docs\n', f'changes are lost when this ends, and not made in {at}/: --journal FILE keeps them\n')
+                  'net use Z: \\\\127.0.0.1\\docs\n', GUESTS, 'nothing is encrypted: ', f'changes are lost when this ends, and not made in {at}/: --journal FILE keeps them\n')
         missing = [it for it in wanted if it not in said]
         print(''.join(f'  not said: {it}\n' for it in missing) + (said if missing else ''), end='', flush=True)
         return found == TEXT and written and not missing and sorted(os.listdir(at)) == ['a.txt', 'inner']
@@ -136,8 +137,10 @@ def accounts_come_in_by_their_passwords(program):
             with Shared(program, *words, *more, given=given) as share:
                 comes = [share.comes_in('Data$', *who) is not None
                          for who in (('ann', ann), ('B"O\\B', bob), ('ann', bob), ('somebody', None))]
-            said = 'for ann, b"o\\b by a password' + (', and everyone' if more == ('--guests',) else ', to read')
-            if comes != [True, True, False, more == ('--guests',)] or said not in ''.join(share.said) or share.before:
+            come = more == ('--guests',)
+            said = 'for ann, b"o\\b by a password' + (', and everyone' if come else ', to read')
+            warned = (GUESTS in ''.join(share.said)) == come
+            if comes != [True, True, False, come] or not warned or said not in ''.join(share.said) or share.before:
                 print(f'  {more}: {comes}, {share.before}, {share.said}', flush=True)
                 return False
     return True

@@ -72,8 +72,8 @@ impl fmt::Display for Host {
     }
 }
 
-/// Writes what else clients want.
-fn write_notes<W: Write>(host: Host, port: u16, out: &mut W) -> io::Result<()> {
+/// Writes what else clients want, and what is not protected; of guests where they may come.
+fn write_notes<W: Write>(host: Host, port: u16, guests_come: bool, out: &mut W) -> io::Result<()> {
     if host.named().is_none() {
         writeln!(out, "{HOST} is this machine's name or address")?;
     }
@@ -83,9 +83,15 @@ fn write_notes<W: Write>(host: Host, port: u16, out: &mut W) -> io::Result<()> {
             "Windows before 11 24H2 asks at port 445 alone; since then: net use .. /tcpport:{port}"
         )?;
     }
+    if guests_come {
+        writeln!(
+            out,
+            "guests are not signed: Windows lets them in where it allows insecure guest logons"
+        )?;
+    }
     writeln!(
         out,
-        "Windows has to allow insecure guests and what is not signed: nothing is signed or encrypted"
+        "nothing is encrypted: serve it in a network that you trust"
     )
 }
 
@@ -194,7 +200,7 @@ impl Said {
         } else {
             self.write_for_user(host, port, out)?;
         }
-        write_notes(host, port, out)?;
+        write_notes(host, port, self.user.is_empty() || self.guest, out)?;
         self.write_end(out)
     }
 }
