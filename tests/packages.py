@@ -29,11 +29,17 @@ def printed(*words, **how):
     return subprocess.run(words, stdin=subprocess.DEVNULL, stdout=subprocess.PIPE, check=True, **how).stdout.decode()
 
 
+def is_clone():
+    """Whether git tells of which commit this is: it reads no clone that is another user's."""
+    return subprocess.run(['git', 'rev-parse', '--verify', 'HEAD'], cwd=TOP, stdout=subprocess.DEVNULL,
+                          stderr=subprocess.DEVNULL, check=False).returncode == 0
+
+
 def left_out(program):
     """Whether no package can be made here, which is said."""
     why = [f'there is no {it}' for it in TOOLS if not shutil.which(it)]
-    if not os.path.exists(os.path.join(TOP, '.git')):
-        why.append('this is no clone of the repository')
+    if not why and not is_clone():
+        why.append('this is no clone of the repository that git reads')
     if bytes_of(program.path)[:2] == b'#!':
         why.append('the program is started by a script')
     if why:
