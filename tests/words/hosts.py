@@ -1,4 +1,6 @@
 """Of --hosts and --per-address, of `serve` and of `share`: which words are taken, and what is said of each that is not."""
+import contextlib
+import itertools
 import os
 import socket
 import tempfile
@@ -34,55 +36,51 @@ TAKEN = ('10.1.2.3', '192.168.1.0/24,10.1.2.3,fd00::/8', '0.0.0.0/0', '::/0', '1
          '10.1.2.3,10.1.2.3', ','.join(['10.1.2.3'] * 64))
 
 
-def folder_words(folder):
-    """The words that serve, and those that share a folder, at an address that another program has."""
-    return ('serve', '--turns', '1'), ('share', folder)
+@contextlib.contextmanager
+def commands():
+    """The words that serve, and those that share a folder, at a port that another program has; and the folder."""
+    with tempfile.TemporaryDirectory() as folder, socket.create_server(('127.0.0.1', 0)) as taken:
+        at = ('--listen', f'127.0.0.1:{taken.getsockname()[1]}')
+        yield (('serve', '--turns', '1', *at), ('share', folder, *at)), folder
 
 
 def lists_are_refused(program):
     """Before anything listens, and before a password is asked for: where the port is taken, the list is told, and not the port."""
     wrong = []
-    with tempfile.TemporaryDirectory() as folder, socket.create_server(('127.0.0.1', 0)) as taken:
-        at = ('--listen', f'127.0.0.1:{taken.getsockname()[1]}')
-        for words in folder_words(folder):
+    with commands() as (both, folder):
+        for words, (text, said) in itertools.product(both, BROKEN):
             named = ('--account', 'ann', '--passwords', os.path.join(folder, 'none')) if words[0] == 'share' else ()
-            for text, said in BROKEN:
-                found = program.ran(*words, *at, *named, f'--hosts={text}', given=b'')
-                wrong.append(differs(found, (1, b'', f'hosts: {said}\n'), (words[0], text)))
+            found = program.ran(*words, *named, f'--hosts={text}', given=b'')
+            wrong.append(differs(found, (1, b'', f'hosts: {said}\n'), (words[0], text)))
     return not any(wrong)
 
 
 def lists_are_taken(program):
+    """What is refused then is the port."""
     wrong = []
-    with tempfile.TemporaryDirectory() as folder, socket.create_server(('127.0.0.1', 0)) as taken:
-        at = ('--listen', f'127.0.0.1:{taken.getsockname()[1]}')
-        for words in folder_words(folder):
-            for text in TAKEN:
-                status, _, errors = program.ran(*words, *at, f'--hosts={text}', given=b'')
-                wrong.append(differs((status, errors.splitlines()[0]), (1, 'listen: failed'), (words[0], text)))
+    with commands() as (both, _):
+        for words, text in itertools.product(both, TAKEN):
+            status, _, errors = program.ran(*words, f'--hosts={text}', given=b'')
+            wrong.append(differs((status, errors.splitlines()[0]), (1, 'listen: failed'), (words[0], text)))
     return not any(wrong)
 
 
 def numbers_are_refused(program):
     """A number from 1 to 4,096 alone is taken."""
-    wrong = []
-    with tempfile.TemporaryDirectory() as folder, socket.create_server(('127.0.0.1', 0)) as taken:
-        at = ('--listen', f'127.0.0.1:{taken.getsockname()[1]}')
-        for words in folder_words(folder):
-            for number, status in (('0', 2), ('4097', 2), ('-1', 2), ('x', 2), ('', 2), ('1', 1), ('4096', 1)):
-                found, _, errors = program.ran(*words, *at, f'--per-address={number}', given=b'')
-                is_named = '--per-address' in errors if status == 2 else errors.startswith('listen: failed\n')
-                wrong.append(differs((found, is_named), (status, True), (words[0], number)))
+    wrong, numbers = [], (('0', 2), ('4097', 2), ('-1', 2), ('x', 2), ('', 2), ('1', 1), ('4096', 1))
+    with commands() as (both, _):
+        for words, (number, status) in itertools.product(both, numbers):
+            found, _, errors = program.ran(*words, f'--per-address={number}', given=b'')
+            is_named = '--per-address' in errors if status == 2 else errors.startswith('listen: failed\n')
+            wrong.append(differs((found, is_named), (status, True), (words[0], number)))
     return not any(wrong)
 
 
 def it_ends_without_memory(program):
     """Up to where it would listen, with lists that are taken and with such as are not."""
-    with tempfile.TemporaryDirectory() as folder, socket.create_server(('127.0.0.1', 0)) as taken:
-        at = ('--listen', f'127.0.0.1:{taken.getsockname()[1]}')
-        runs = [(*words, *at, '--hosts', text) for words in folder_words(folder)
-                for text in ('192.168.1.0/24,fd00::/8', '10.1.2.3,', '10.1.2.3,localhost')]
-        return all(ends_without_memory(program, *words) for words in runs)
+    lists = ('192.168.1.0/24,fd00::/8', '10.1.2.3,', '10.1.2.3,localhost')
+    with commands() as (both, _):
+        return all(ends_without_memory(program, *words, '--hosts', text) for words, text in itertools.product(both, lists))
 
 
 TESTS = (lists_are_refused, lists_are_taken, numbers_are_refused)

@@ -52,7 +52,7 @@ pub trait JournalFile {
         ensures ok { OnOk result (held self.new ≡ held self.old ++ bytes.now) }
         ensures err { OnErr result (AddsPart (held self.old) bytes.now (held self.new)) };
 
-    /// Takes away all bytes but the first so many. After an error none is gone.
+    /// Cuts the file to its first `size` bytes. After an error it has all of its bytes.
     fn cut(&mut self, size: u64) -> Result<(), JournalFault>
         ensures ok { OnOk result (held self.new ≡ take size (held self.old)) }
         ensures err { OnErr result (held self.new ≡ held self.old) };

@@ -13,7 +13,8 @@ use smb_session::Authenticator;
 /// of somebody who may write and signed where it must be, no file changes. A chain is answered by one frame of
 /// messages, one for each request but a CANCEL, in order; that to a signed request of a session that signs is signed by
 /// the session's key, and that to a SESSION_SETUP which lets in a session that signs, by that session's. And where the
-/// authenticator gives no keys, no signature refuses a request, and no response is signed.
+/// authenticator gives no keys, no signature refuses a request, and on a connection that keeps no key no response is
+/// signed, and it keeps none.
 ///
 /// The laws hold of every authenticator: the contract is the statement, and the body does nothing.
 pub fn laws_of_signing<A: Authenticator>()
