@@ -70,9 +70,9 @@ pub record ChainState (S : Type 0) : Type 0 where
 module _ {S : Type 0} (authenticator : Meaning S) (arrival : Arrival) where
   -- one request of a chain on a connection (3.3.5.2): its response grants credits and joins the replies (3.3.1.2);
   -- without a response neither changes. It is signed by the key of the session that the request acts under, also where
-  -- that has ended, or of the one that it lets in, whose key the connection keeps (3.3.4.1.1). The reply's header has the request's numbers, the flag SERVER_TO_REDIR (1),
-  -- RELATED_OPERATIONS (4) where the request had it, SIGNED (8) where the reply is signed, and the credits that are
-  -- granted (3.3.4.1)
+  -- that has ended, or of the one that it lets in, whose key the connection keeps (3.3.4.1.1). The reply's header has the
+  -- request's numbers, the flag SERVER_TO_REDIR (1), RELATED_OPERATIONS (4) where the request had it, SIGNED (8) where the
+  -- reply is signed, and the credits that are granted (3.3.4.1)
   unfoldable pub one_performed : ChainState S → List ℕ → ChainState S
   one_performed chain request =
       let before = chain.connection in

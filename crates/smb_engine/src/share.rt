@@ -25,6 +25,7 @@ use super::output::Sink;
 use super::stream::take_piece;
 use smb_opens::Opens;
 use smb_peers::{Answer, Event, Fate, Observer, Usage};
+use smb_reason::Reason;
 use smb_request::Server;
 use smb_session::Authenticator;
 use smb_tree::Tree;
@@ -235,6 +236,20 @@ impl<A: Authenticator + Drop, T: Tree + Drop, O: Opens + Drop> Share<A, T, O> {
             Ok(fate) => Ok(fate),
             Err(CutShort { done }) => Err(ServeFault::NoMemory { done }),
         }
+    }
+
+    /// What its connections share: its settings, the sessions, and the files with their opens.
+    pub fn server(&self) -> &Server<A, T, O>
+        ensures { result.now ≡ self.now.server }
+    {
+        &self.server
+    }
+
+    /// Has the tree keep what changed ([`Tree::keep_changes`]). The share stays, whatever is returned.
+    pub fn keep_changes(&mut self) -> Result<(), Reason>
+        ensures { self.new ≡ self.old }
+    {
+        self.server.keep_changes()
     }
 
     /// How much the share holds. It takes no time that grows with it.

@@ -1,5 +1,5 @@
 -- What one more node changes.
-use Rattle.std.specs.Prelude.{◌≡◌, ◌≢◌, ℕ, suc, zero, ◌+◌, ◌<◌, ◌==◌, true, false, ◌&&◌, ◌||◌, if◌then◌else◌, List, [], ◌∷◌, ◌++◌, length, Option, None, Some, is_some, refl}
+use Rattle.std.specs.Prelude.{◌≡◌, ◌≢◌, ℕ, suc, zero, ◌+◌, ◌<◌, ◌==◌, true, false, ◌&&◌, ◌||◌, if◌then◌else◌, List, [], ◌∷◌, ◌++◌, length, max, Option, None, Some, is_some, refl}
 use Rattle.std.specs.Option.{option_map}
 use Rattle.std.proofs.Common.{arith, sym, ap, ◌∙◌}
 use Rattle.std.proofs.lemmas.Grind.{common_steps}
@@ -178,6 +178,11 @@ Numbers-kept g f same (e ∷ es) l n = (rw (same e.1 l.0).2 n.0, Numbers-kept g 
 Numbers-push : (f : Heap) (es : List (ℕ × ℕ)) (n s : ℕ) → Numbers f es → option_map (λ (entry : Entry). entry.number) (entry_in (f s)) ≡ Some n → Numbers f (es ++ (n, s) ∷ [])
 Numbers-push f [] n s l h = (h, tt)
 Numbers-push f (e ∷ es) n s l h = (l.0, Numbers-push f es n s l.1 h)
+
+-- numbers below one are below a greater one
+pub under_more : (es : List (ℕ × ℕ)) (n m : ℕ) → Under es n → Under es (max n m)
+under_more [] n m u = tt
+under_more (e ∷ es) n m u = (omega (arith, u.0), under_more es n m u.1)
 
 pub slot_of-fresh : (es : List (ℕ × ℕ)) (n : ℕ) → Under es n → slot_of es n ≡ None
 slot_of-fresh [] n u = refl

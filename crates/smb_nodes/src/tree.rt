@@ -1,6 +1,6 @@
 //! The tree of nodes.
 
-ghost use Rattle.std.specs.Prelude.{◌≡◌, IfOk, IfErr};
+ghost use Rattle.std.specs.Prelude.{◌≡◌, IfOk, IfErr, max};
 ghost use Rattle.smb_tree.specs.Content.{new_content, new_content_within};
 ghost use Rattle.smb_tree.specs.declared.fault.TreeFault.TheVariants.{NoMemory};
 
@@ -131,6 +131,14 @@ impl NodeTree {
             deepest: 0,
             alloc,
         })
+    }
+
+    /// Leaves out the numbers below one: the next entry that is added gets this one, or the one that it would get where that is
+    /// greater.
+    pub fn skip_to(&mut self, number: EntryNo)
+        ensures { self.new ≡ record self.old { next = max self.old.next number } }
+    {
+        self.next = self.next.max(number);
     }
 }
 

@@ -40,6 +40,7 @@ use smb_access::look::{count_entries, entry_view, find_with_above};
 use smb_access::sharing::conflicts;
 use smb_access::{Closed, CreateAsk, Created, OpenNo, Opens, Owner, StoreFault, View};
 use smb_locks::LockTable;
+use smb_reason::Reason;
 use smb_refusals::{CreateRefusal, Refusal, RefusedBy};
 use smb_tree::{EntryNo, Tree};
 use smb_wire::{CreateAction, CreateDisposition, NtStatus, PathView};
@@ -93,6 +94,13 @@ impl<T: Tree + Drop, O: Opens + Drop> Store<T, O> {
         ensures { T.content result.now ≡ self.now.tree }
     {
         &self.tree
+    }
+
+    /// Has the tree keep what changed ([`Tree::keep_changes`]). The store stays, whatever is returned.
+    pub fn keep_changes(&mut self) -> Result<(), Reason>
+        ensures { self.new ≡ self.old }
+    {
+        self.tree.keep_changes()
     }
 
     /// The opens.

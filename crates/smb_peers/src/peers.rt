@@ -4,6 +4,8 @@ ghost use Rattle.std.specs.Prelude.{◌≡◌, ◌<◌, ◌≤◌, ◌++◌, ◌
 ghost use Rattle.smb_peers.specs.Record.{Keeping, close};
 ghost use Rattle.smb_peers.specs.Peers.{call_of, send_call, OpensOnce};
 
+use smb_reason::Reason;
+
 /// How much a share holds.
 #[derive(Clone, Copy, Debug, PartialEq, Eq)]
 pub struct Usage {
@@ -92,6 +94,13 @@ pub trait Peers {
 
     /// Takes note of how much the share holds, where they want to know. It does nothing to what is sent, and is not in the record.
     fn note_usage(&mut self, _usage: Usage)
+        ensures kept { Keeping (keeps self.old) (keeps self.new) (calls self.new ≡ calls self.old) }
+        ensures opened { opened self.new ≡ opened self.old }
+    {}
+
+    /// Takes note of whether all that changed in the share so far is kept, once in each turn before its sends. It does nothing to
+    /// what was sent, and is not in the record.
+    fn note_kept(&mut self, _kept: Result<(), Reason>)
         ensures kept { Keeping (keeps self.old) (keeps self.new) (calls self.new ≡ calls self.old) }
         ensures opened { opened self.new ≡ opened self.old }
     {}

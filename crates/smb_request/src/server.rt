@@ -29,6 +29,7 @@ use super::smb1::Smb1Answer;
 use smb_body::{Reply, write_reply};
 use smb_info::Volume;
 use smb_opens::{Opens, Owner, Store};
+use smb_reason::Reason;
 use smb_session::{Authenticator, Denial, Sessions};
 use smb_tree::{Tree, Usage};
 use smb_wire::limits::Limits;
@@ -200,6 +201,20 @@ impl<A: Authenticator + Drop, T: Tree + Drop, O: Opens + Drop> Server<A, T, O> {
         ensures { result ≡ length self.now.sessions.table.sessions }
     {
         self.sessions.len()
+    }
+
+    /// The files, their opens and locks.
+    pub fn store(&self) -> &Store<T, O>
+        ensures { result.now ≡ self.now.store }
+    {
+        &self.store
+    }
+
+    /// Has the tree keep what changed ([`Tree::keep_changes`]). The server stays, whatever is returned.
+    pub fn keep_changes(&mut self) -> Result<(), Reason>
+        ensures { self.new ≡ self.old }
+    {
+        self.store.keep_changes()
     }
 
     /// How many opens there are.

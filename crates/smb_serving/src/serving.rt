@@ -383,7 +383,7 @@ fn send_all<A: Authenticator + Drop, T: Tree + Drop, O: Opens + Drop, P: Peers>(
     send_from(share, peers, served, 0);
 }
 
-/// One turn: the next event, and then what is to be sent. Tells whether memory ran out.
+/// One turn: the next event, what changed by it is kept, and then what is to be sent. Returns whether memory ran out.
 fn turn<A: Authenticator + Drop, T: Tree + Drop, O: Opens + Drop, P: Peers, C: Clock, W: Observer>(
     share: &mut Share<A, T, O>,
     peers: &mut P,
@@ -399,13 +399,15 @@ fn turn<A: Authenticator + Drop, T: Tree + Drop, O: Opens + Drop, P: Peers, C: C
     ensures tracked { AreTracked share.new served.new }
 {
     let ran_out = take_event(share, peers, clock, served, observer);
+    peers.note_kept(share.keep_changes());
     send_all(share, peers, served);
     ran_out
 }
 
 /// Serves a share to its peers for so many turns, and returns how often memory ran out.
 ///
-/// A turn is the next event of the peers, and then a send to each peer that is owed bytes. Where memory runs out in a piece,
+/// A turn is the next event of the peers, and then a send to each peer that is owed bytes. Before the sends the share's tree
+/// keeps what changed, and the peers take note of whether it could. Where memory runs out in a piece,
 /// or at an opening, that peer is closed, and the others are served on.
 pub fn serve<A: Authenticator + Drop, T: Tree + Drop, O: Opens + Drop, P: Peers, C: Clock>(
     share: &mut Share<A, T, O>,

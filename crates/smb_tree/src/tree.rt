@@ -18,6 +18,7 @@ use super::entry::{Basic, EntryNo, EntryView, Kind};
 use super::entry_copy::EntryCopy;
 use super::fault::TreeFault;
 use arrayvec::ArrayVec;
+use smb_reason::Reason;
 use smb_wire::limits::Limits;
 use smb_wire::{FileAttributes, FoldedName, PathView};
 use std::alloc::Global;
@@ -212,4 +213,12 @@ pub trait Tree {
         ensures err { OnErr result (content self.new ≡ content self.old) }
         ensures why { IfErr result (λ fault. fault ≢ NoMemory → write_fault (content self.old) number offset (length buffer.now) ≡ Some fault) }
         ensures memory { IfErr result (λ fault. fault ≡ NoMemory → write_fault (content self.old) number offset (length buffer.now) ≡ None) };
+
+    /// Has what changed since the last call kept, where the tree keeps its changes somewhere. The content stays, whatever is
+    /// returned; what an error left unkept is kept by the next call that returns none.
+    fn keep_changes(&mut self) -> Result<(), Reason>
+        ensures { content self.new ≡ content self.old }
+    {
+        Ok(())
+    }
 }
