@@ -1,12 +1,18 @@
-"""Who may connect to the program over TCP: by --hosts of which addresses, and by --per-address how many of one.
+"""Who may connect to the program over TCP: by --hosts of which addresses, and by --per-address how many of one; and how
+long an address waits behind wrong passwords.
 
 A client comes from the address that it binds: all of 127.0.0.0/8 are this machine's.
 """
+import contextlib
+import os
 import socket
+import tempfile
+import time
 
+from tests.smb import ntlm
 from tests.smb.client import Client
-from tests.smb.frames import echoes
-from tests.smb.program import descriptors_of, memory_of
+from tests.smb.frames import echoes, negotiate
+from tests.smb.program import GUEST, descriptors_of, memory_of
 
 ONE, OTHER = '127.0.0.1', '127.0.0.2'
 # Networks, and which addresses they let in and keep out.
@@ -190,6 +196,128 @@ def both_hold_together(program):
                 and is_kept_out(share, '127.0.0.4') and comes_in(share, '127.0.0.3'))
 
 
+# What answers a wrong password, and behind how many of them an address waits.
+DENIED, FEWEST = 0xC000006D, 5
+RIGHT, WRONG = bytes.fromhex(ntlm.PASSWORD_HASH), bytes(16)
+
+
+@contextlib.contextmanager
+def served_to_ann(program, *words):
+    """A share to which ann logs in by her password."""
+    with tempfile.TemporaryDirectory() as folder:
+        accounts = ntlm.accounts_file(folder, ntlm.account('ann'))
+        with program.serve('--login', 'ntlm', '--accounts', accounts, *words) as share:
+            yield share
+
+
+def are_denied(share, source, count):
+    """Whether so many logins by a wrong password are denied, each once it is answered, on connections of their own."""
+    return all(ntlm.logs_in(share.client(source), 'ann', WRONG)[0] == DENIED for _ in range(count))
+
+
+def waits(client, begin, seconds):
+    """Whether what a client asked is answered, and not before so many seconds behind a moment have passed."""
+    is_answered = len(client.reply()) >= 64
+    passed = time.monotonic() - begin
+    if passed < seconds:
+        print(f'  answered after {passed:.2f} of {seconds} seconds', flush=True)
+    return is_answered and passed >= seconds
+
+
+def wrong_passwords_are_slowed_down(program):
+    """Behind the fifth an address waits a second, and behind the next ones twice as long each time; who is in is
+    answered meanwhile, and so are others."""
+    with served_to_ann(program) as share:
+        inside, early = share.client(ONE), share.client(ONE)
+        if not ntlm.comes_in(inside, 'ann', RIGHT) or not early.negotiates() or not are_denied(share, ONE, FEWEST - 1):
+            return False
+        for i, seconds in enumerate((1, 2, 4)):
+            begin = time.monotonic()
+            if not are_denied(share, ONE, 1):
+                return False
+            late = share.client(ONE).send(negotiate())
+            early.send(echoes(1 + i, 1))
+            if inside.asks(echoes(3 + i, 1)) != 0 or not comes_in(share, OTHER):
+                return False
+            if not waits(late, begin, seconds) or not waits(early, begin, seconds):
+                return False
+        return True
+
+
+def four_wrong_passwords_slow_nobody_down(program):
+    """Nor do wrong ones of other addresses, and right ones: a client is answered in less time than it would wait."""
+    with served_to_ann(program) as share:
+        begin = time.monotonic()
+        if not all(are_denied(share, f'127.0.0.{1 + i}', FEWEST - 1) for i in range(4)):
+            return False
+        if not all(ntlm.comes_in(share.client(ONE), 'ann', RIGHT) for _ in range(20)):
+            return False
+        print(f'  {time.monotonic() - begin:.2f} seconds', flush=True)
+        begin = time.monotonic()
+        return share.client(ONE).is_served() and time.monotonic() - begin < 1
+
+
+def who_is_in_waits_for_its_own_wrong_passwords(program):
+    """A guest, who tries those of an account on its own connection, until it has come in again."""
+    with served_to_ann(program, '--config', GUEST) as share:
+        guest = share.client(ONE)
+        if not ntlm.comes_in(guest, 'somebody'):
+            return False
+        for i in range(FEWEST):
+            begin = time.monotonic()
+            if ntlm.login_at(guest, 3 + 2 * i, 'ann', WRONG)[0] != DENIED:
+                return False
+        message_id = 3 + 2 * FEWEST
+        if not waits(guest.send(echoes(message_id, 1)), begin, 1):
+            return False
+        if ntlm.login_at(guest, message_id + 1, 'somebody') != ntlm.COMES_IN or not are_denied(share, ONE, 1):
+            return False
+        begin = time.monotonic()
+        return guest.asks(echoes(message_id + 3, 1)) == 0 and time.monotonic() - begin < 2
+
+
+def who_ends_at_once_is_counted(program):
+    """Bytes that are no frame, behind a wrong password, end the connection in the same turn."""
+    with served_to_ann(program) as share:
+        for _ in range(FEWEST):
+            client, begin = share.client(ONE), time.monotonic()
+            is_denied = client.negotiates() and ntlm.login_at(client, 1, 'ann', WRONG, b'\x85')[0] == DENIED
+            if not is_denied or not client.is_ended():
+                return False
+        return waits(share.client(ONE).send(negotiate()), begin, 1)
+
+
+def ticks_of(share):
+    """How many ticks of a processor's time the program took."""
+    with open(f'/proc/{share.process.pid}/stat', encoding='ascii') as it:
+        return sum(map(int, it.read().rpartition(')')[2].split()[11:13]))
+
+
+def who_waits_costs_nothing(program):
+    """The program sleeps, though bytes wait to be read."""
+    with served_to_ann(program) as share:
+        if not are_denied(share, ONE, FEWEST):
+            return False
+        begin = time.monotonic()
+        if not are_denied(share, ONE, 1):
+            return False
+        late = share.client(ONE).send(negotiate() + b''.join(echoes(1 + i, 1) for i in range(20)))
+        ticks = ticks_of(share)
+        is_well = waits(late, begin, 2)
+        took = (ticks_of(share) - ticks) / os.sysconf('SC_CLK_TCK')
+        print(f'  {took:.2f} seconds of a processor', flush=True)
+        return is_well and took < 0.5 and all(len(late.reply()) >= 64 for _ in range(20))
+
+
+def a_clock_for_tests_slows_nobody_down(program):
+    """Ten wrong passwords would take half a minute."""
+    with served_to_ann(program, '--clock', '133000000000000000') as share:
+        begin = time.monotonic()
+        return are_denied(share, ONE, 10) and time.monotonic() - begin < 15
+
+
 TESTS = (hosts_alone_are_let_in, hosts_of_ipv6_are_let_in, who_is_kept_out_takes_nothing, so_many_of_an_address_are_let_in,
          one_address_leaves_places_to_others, all_of_an_ipv6_network_count_as_one, who_makes_room_is_counted_no_more,
-         both_hold_together)
+         both_hold_together, wrong_passwords_are_slowed_down, four_wrong_passwords_slow_nobody_down,
+         who_is_in_waits_for_its_own_wrong_passwords, who_ends_at_once_is_counted, who_waits_costs_nothing,
+         a_clock_for_tests_slows_nobody_down)

@@ -1,10 +1,12 @@
-"""What `--log` writes of connections that are closed as they are accepted."""
+"""What `--log` writes of connections that are closed as they are accepted, and of addresses that wait behind wrong
+passwords."""
 import os
 import re
 import tempfile
 import time
 
 from tests.logging.served import fields_of, waits_for
+from tests.smb import ntlm
 from tests.smb.kept import killed
 
 ONE, OTHER = '127.0.0.1', '127.0.0.2'
@@ -71,4 +73,23 @@ def without_the_words_nothing_is_kept_out(program):
     return found == [(str(1 + i), OTHER if i == 60 else ONE, 'opened') for i in range(61)]
 
 
-TESTS = (who_is_kept_out_is_logged, lines_have_a_limit, without_the_words_nothing_is_kept_out)
+def who_is_kept_back_is_logged(program):
+    """By the fifth wrong password and by the next, with the address, at the level that has least."""
+    with tempfile.TemporaryDirectory() as folder:
+        file, accounts = os.path.join(folder, 'log'), ntlm.accounts_file(folder, ntlm.account('ann'))
+        words = ('--login', 'ntlm', '--accounts', accounts, '--log', file, '--log-level', 'sessions')
+        with program.serve(*words) as share:
+            for _ in range(6):
+                ntlm.logs_in(share.client(OTHER), 'ann', bytes(16))
+            waits_for(file, 1, b'\tkept back: ')
+            killed(share)
+        found = [line for line in lines_of(file) if line[2].startswith('kept back')]
+    wanted = [('-', OTHER, 'kept back: 5 wrong passwords, for 1 second'),
+              ('-', OTHER, 'kept back: 6 wrong passwords, for 2 seconds')]
+    if found != wanted:
+        print(f'  {found}', flush=True)
+    return found == wanted
+
+
+TESTS = (who_is_kept_out_is_logged, lines_have_a_limit, without_the_words_nothing_is_kept_out,
+         who_is_kept_back_is_logged)

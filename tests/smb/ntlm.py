@@ -98,13 +98,17 @@ def logs_in(client, user, nt_hash=None):
 
     Without the hash of a password there is no response in it.
     """
-    if not client.negotiates():
-        return None
-    first = client.send(session_setup(1, NEGOTIATE)).reply()
+    return login_at(client, 1, user, nt_hash) if client.negotiates() else None
+
+
+def login_at(client, message_id, user, nt_hash=None, behind=b''):
+    """The same of a client that has negotiated; its messages have this MessageId and the next one, and these bytes come
+    behind."""
+    first = client.send(session_setup(message_id, NEGOTIATE)).reply()
     session = struct.unpack_from('<Q', first, 40)[0]
     if struct.unpack_from('<I', first, STATUS_AT - 4)[0] != MORE_PROCESSING or CHALLENGE not in first:
         return None
     challenge = first[first.index(CHALLENGE) + 24:][:8]
     response = b'' if nt_hash is None else response_to(challenge, user, nt_hash)
-    last = client.send(session_setup(2, authenticate(user, response), session)).reply()
+    last = client.send(session_setup(message_id + 1, authenticate(user, response), session) + behind).reply()
     return struct.unpack_from('<I', last, STATUS_AT - 4)[0], struct.unpack_from('<H', last, 66)[0]

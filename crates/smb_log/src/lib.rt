@@ -11,7 +11,7 @@
 //! | connection | its number in the share |
 //! | peer | its address, as the caller gives it |
 //! | user | of the session that a request acts under, or that a SESSION_SETUP let in; at an end who was let in last, and has not logged off; each guest is `guest` |
-//! | event | `started`, `failed: ..`, `stopped`, `opened`, `refused: ..`, `ended: ..`, `minute ..`, or what was asked: a command by its name with its fields; of a denied login also `name=..`, as the client typed it |
+//! | event | `started`, `failed: ..`, `stopped`, `opened`, `refused: ..`, `kept back: ..`, `ended: ..`, `minute ..`, or what was asked: a command by its name with its fields; of a denied login also `name=..`, as the client typed it |
 //! | status | of the response, by its name in [MS-ERREF] |
 //! | microseconds | from the piece that completed the request to its response; of a request that was refused a blank and `why=".."` behind them, the label and the words of a row of docs/PROFILE.md |
 //!
@@ -31,6 +31,7 @@
 #![tactic(auto)]
 
 mod ending;
+mod kept_back;
 mod kept_out;
 mod level;
 mod log;
@@ -40,6 +41,7 @@ mod peers;
 mod request;
 
 pub use ending::Ending;
+pub use kept_back::KeptBack;
 pub use kept_out::KeptOut;
 pub use level::Level;
 pub use log::Log;

@@ -1,6 +1,7 @@
 //! The log of a share.
 
 use crate::ending::Ending;
+use crate::kept_back::KeptBack;
 use crate::kept_out::KeptOut;
 use crate::level::Level;
 use crate::minute::{Counts, Minute, add};
@@ -140,6 +141,13 @@ impl<W: Write + Drop> Log<W> {
             let event = format_args!("refused: {why}, and {before} before it");
             self.lines.put(moment, subject, event, None)
         };
+    }
+
+    /// Takes note that nothing is read for a time of the connections without a session of a peer's address.
+    pub fn kept_back(&mut self, address: &str, why: KeptBack) {
+        let (moment, subject) = (self.moment, Subject::at(address));
+        let event = format_args!("kept back: {why}");
+        let _ = self.lines.put(moment, subject, event, None);
     }
 
     /// Takes note that a piece of so many bytes of a client's stream came.

@@ -3,6 +3,7 @@
 ghost use Rattle.std.specs.Prelude.{◌≡◌};
 
 use crate::ending::Ending;
+use crate::kept_back::KeptBack;
 use crate::kept_out::{KeptOut, KeptOutLines};
 use crate::log::Log;
 use crate::observer::borrowed;
@@ -25,6 +26,12 @@ pub trait ConnectionFacts {
 
     /// Why a connection was closed as it was accepted, where one was since this was asked last: its address is added.
     fn take_kept_out(&self, address: &mut String) -> Option<KeptOut>;
+
+    /// Why nothing is read for a time of an address's connections that have no session, where that began since this was
+    /// asked last: the address is added, with the port of the connection by which it began. By itself never.
+    fn take_kept_back(&self, _address: &mut String) -> Option<KeptBack> {
+        None
+    }
 }
 
 /// An opening of which the share has not decided, and when it came.
@@ -149,6 +156,18 @@ impl<'a, P: Peers + Drop, F: ConnectionFacts, C: Clock + Drop, W: Write + Drop> 
         }
     }
 
+    /// Logs that an address is kept back, where that began.
+    fn log_kept_back(&mut self)
+        ensures { self.new.peers ≡ self.old.peers }
+    {
+        let mut address = String::new(self.alloc);
+        if let Some(why) = self.facts.take_kept_back(&mut address)
+            && let Some(mut log) = borrowed(self.log)
+        {
+            log.kept_back(address.as_str(), why);
+        }
+    }
+
     /// Logs an event at this moment, an opening once the share has taken it; and notes whether a line of a minute is due.
     fn log_event(&mut self, event: PeerEvent, moment: u64)
         ensures { self.new.peers ≡ self.old.peers }
@@ -158,6 +177,7 @@ impl<'a, P: Peers + Drop, F: ConnectionFacts, C: Clock + Drop, W: Write + Drop> 
         if let Some(mut log) = borrowed(self.log) {
             log.note_moment(moment);
         }
+        self.log_kept_back();
         self.log_kept_out(moment);
         match event {
             PeerEvent::Opened(number) => self.waiting = Some(Opening { number, moment }),

@@ -2,16 +2,17 @@
 
 use crate::clock::ServeClock;
 use smb_command_parts::{Fault, LogOutput, LogWords, log_of};
-use smb_log::{ConnectionFacts, Ending, KeptOut, Log, LoggedPeers};
-use smb_tcp::{GivenUp, PeerFacts, TcpPeers};
+use smb_log::{ConnectionFacts, Ending, KeptBack, KeptOut, Log, LoggedPeers};
+use smb_tcp::{GivenUp, Logins, PeerFacts, TcpPeers};
 use smb_wire::limits::Limits;
 use std::alloc::{AllocError, Global};
 use std::cell::RefCell;
 
-/// What is known of the connections of TCP peers.
+/// What is known of the connections of TCP peers, and how their logins ended.
 #[derive(Drop)]
 pub struct TcpFacts {
     pub peers: PeerFacts,
+    pub logins: Logins,
 }
 
 impl ConnectionFacts for TcpFacts {
@@ -40,6 +41,17 @@ impl ConnectionFacts for TcpFacts {
             smb_tcp::KeptOut::Address(most) => KeptOut::Address(most),
         })
     }
+
+    fn take_kept_back(&self, text: &mut String) -> Option<KeptBack> {
+        let (address, why) = self.peers.take_kept_back()?;
+        if write!(text, "{address}").is_err() {
+            text.clear();
+        }
+        Some(KeptBack {
+            wrong: why.wrong,
+            seconds: why.seconds,
+        })
+    }
 }
 
 impl TcpFacts {
@@ -47,6 +59,7 @@ impl TcpFacts {
     pub fn new(alloc: Global) -> Result<Self, AllocError> {
         Ok(TcpFacts {
             peers: PeerFacts::new(alloc)?,
+            logins: Logins::new(),
         })
     }
 }

@@ -1,2 +1,4 @@
 pub mod Numbering
 pub mod Shifts
+pub mod Delays
+pub mod Tries

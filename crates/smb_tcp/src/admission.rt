@@ -27,7 +27,7 @@ pub(crate) struct Admission {
 }
 
 /// The address that connections of an address are counted under: itself, and of IPv6 the first one with the same 64 bits.
-fn counted_under(address: IpAddr) -> IpAddr {
+pub(crate) fn counted_under(address: IpAddr) -> IpAddr {
     match address.to_canonical() {
         IpAddr::V4(address) => IpAddr::V4(address),
         IpAddr::V6(address) => {

@@ -40,6 +40,10 @@ pub(crate) struct Connection {
     pub(crate) heard: Duration,
     /// Something that was sent to it was taken.
     pub(crate) answered: bool,
+    /// Its last login let its client in.
+    pub(crate) has_session: bool,
+    /// When its bytes may be read again, while they are kept back behind wrong passwords.
+    pub(crate) kept_until: Option<Duration>,
 }
 
 /// How long a peer may do nothing; None: for ever.
@@ -99,12 +103,30 @@ impl Connection {
             accepted: now,
             heard: now,
             answered: false,
+            has_session: false,
+            kept_until: None,
         }
+    }
+
+    /// Whether its bytes are kept back: those that came, and those that are still to be read.
+    pub(crate) fn is_held(&self) -> bool {
+        self.blocked || self.kept_until.is_some()
     }
 
     /// Whether a read may bring something, or something that came before is to be lent.
     pub(crate) fn may_be_read(&self) -> bool {
-        (self.readable || self.lending.has_more()) && !self.ended && !self.blocked
+        (self.readable || self.lending.has_more()) && !self.ended && !self.is_held()
+    }
+
+    /// Has it read again where its time has come, and gives that time where it has not; the end of all time where it is
+    /// not kept back.
+    pub(crate) fn release(&mut self, now: Duration) -> Duration {
+        let until = self.kept_until.unwrap_or(Duration::MAX);
+        if until <= now {
+            self.kept_until = None;
+            return Duration::MAX;
+        }
+        until
     }
 
     /// When a limit of silence passes, if it neither says nor takes anything until then; at the end of all time where none does, or `Ended`

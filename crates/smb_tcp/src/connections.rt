@@ -4,6 +4,7 @@ ghost use Rattle.std.specs.Prelude.{◌≡◌, ◌<◌, ◌≤◌, true, length,
 
 use super::connection::{Connection, SilenceLimits};
 use super::door::Doors;
+use super::login_delay::key_of;
 use super::piece::{Piece, READ_SIZE};
 use mio::Events;
 use std::alloc::{AllocError, Global};
@@ -38,6 +39,8 @@ pub(crate) struct Connections {
     limits: SilenceLimits,
     // No limit of silence passes before this moment, for any of them.
     quiet_until: Duration,
+    // No connection that is kept back may be read before this moment.
+    kept_until: Duration,
     // How many bytes all are owed, and how many they may be.
     owed: usize,
     most_owed: usize,
@@ -56,6 +59,7 @@ impl Connections {
             going_on: 0,
             limits: SilenceLimits::none(),
             quiet_until: Duration::ZERO,
+            kept_until: Duration::MAX,
             owed: 0,
             most_owed: usize::MAX,
         })
@@ -246,11 +250,13 @@ impl Connections {
         requires { vec_len self.old.list < self.old.most }
     {
         let silent_at = connection.silent_at(self.limits);
+        let kept_until = connection.kept_until.unwrap_or(Duration::MAX);
         if self.list.push(connection).is_err() {
             return false;
         }
         self.going_on = self.going_on.saturating_add(1);
         self.quiet_until = self.quiet_until.min(silent_at);
+        self.kept_until = self.kept_until.min(kept_until);
         true
     }
 
@@ -299,14 +305,14 @@ impl Connections {
         is_timed
     }
 
-    /// Keeps back the bytes that wait behind a piece, which was lent, where their peer at a place did not take all that was sent to it.
-    /// Tells whether they are kept back.
+    /// Keeps back the bytes that wait behind a piece, which was lent, where their peer at a place did not take all that
+    /// was sent to it, or has to wait behind wrong passwords. Tells whether they are kept back.
     pub(crate) fn keep_waiting(&mut self, place: usize, piece: &mut Piece) -> bool
         requires { place < vec_len self.old.list }
         ensures { vec_len self.new.list ≡ vec_len self.old.list }
     {
         let connection = &mut self.list[place];
-        connection.blocked && connection.lending.keep_waiting(piece)
+        connection.is_held() && connection.lending.keep_waiting(piece)
     }
 
     /// Reads from the one at a place, where no bytes of it are kept back.
@@ -366,6 +372,53 @@ impl Connections {
             Err(error) if error.kind() == ErrorKind::Interrupted => Ok(0),
             Err(error) => Err(error),
         }
+    }
+
+    /// How long the first of those that are kept back still waits, at a moment.
+    pub(crate) fn shortest_wait(&self, now: Duration) -> Duration {
+        self.kept_until.saturating_sub(now)
+    }
+
+    /// Has those that are kept back read again whose time has come. All are looked at only where it may have come for
+    /// some.
+    pub(crate) fn release(&mut self, now: Duration) {
+        if now < self.kept_until {
+            return;
+        }
+        self.kept_until = Duration::MAX;
+        for place in 0..self.list.len() {
+            let until = self.list[place].release(now);
+            self.kept_until = self.kept_until.min(until);
+            self.note(place);
+        }
+    }
+
+    /// Keeps back, up to a moment, those of an address that have no session.
+    pub(crate) fn keep_back(&mut self, key: u128, until: Duration) {
+        self.kept_until = self.kept_until.min(until);
+        for place in 0..self.list.len() {
+            let connection = &mut self.list[place];
+            if !connection.has_session && key_of(connection.address) == key {
+                connection.kept_until = Some(until);
+                self.note(place);
+            }
+        }
+    }
+
+    /// Whether the one at a place is kept back behind wrong passwords.
+    pub(crate) fn is_kept_back(&self, place: usize) -> bool
+        requires { place < vec_len self.now.list }
+    {
+        self.list[place].kept_until.is_some()
+    }
+
+    /// Notes whether the last login of the one at a place let its client in, and returns its address.
+    pub(crate) fn note_login(&mut self, place: usize, is_in: bool) -> IpAddr
+        requires { place < vec_len self.old.list }
+    {
+        let connection = &mut self.list[place];
+        connection.has_session = is_in;
+        connection.address
     }
 
     /// Drops the one of a number, and tells its peer's address.

@@ -1,7 +1,8 @@
 //! What is known of peers beside their bytes.
 
 use super::admission::KeptOut;
-use super::tcp::{DEFAULT_CONNECTIONS, streams_for};
+use super::logins::KeptBack;
+use super::streams::{DEFAULT_CONNECTIONS, streams_for};
 use std::alloc::{AllocError, Global};
 use std::cell::{Cell, RefCell};
 use std::net::SocketAddr;
@@ -23,13 +24,15 @@ struct Fact {
     given_up: Option<GivenUp>,
 }
 
-/// The addresses of peers, and which of them the listener ended, for whoever logs them. Each is known from the opening of its
-/// connection until that is closed; of those that are closed as they are accepted, the last one. All room is made first.
+/// The addresses of peers, and which of them the listener ended, for whoever logs them. Each is known from the opening
+/// of its connection until that is closed; of those that are closed as they are accepted, the last one, and so of those
+/// that are kept back. All room is made first.
 #[derive(Drop)]
 pub struct PeerFacts {
     // In the order of their numbers.
     facts: RefCell<Vec<Fact>>,
     kept_out: Cell<Option<(SocketAddr, KeptOut)>>,
+    kept_back: Cell<Option<(SocketAddr, KeptBack)>>,
 }
 
 impl PeerFacts {
@@ -43,6 +46,7 @@ impl PeerFacts {
         Ok(PeerFacts {
             facts: RefCell::new(Vec::with_capacity(alloc, streams_for(connections))?),
             kept_out: Cell::new(None),
+            kept_back: Cell::new(None),
         })
     }
 
@@ -70,6 +74,19 @@ impl PeerFacts {
     /// The address of the connection that was closed last as it was accepted, and why; None where none was since this was asked last.
     pub fn take_kept_out(&self) -> Option<(SocketAddr, KeptOut)> {
         self.kept_out.replace(None)
+    }
+
+    /// The address whose connections were kept back last, by the one that brought the wrong password, and why; None
+    /// where none were since this was asked last.
+    pub fn take_kept_back(&self) -> Option<(SocketAddr, KeptBack)> {
+        self.kept_back.replace(None)
+    }
+
+    /// Notes that the address of a connection is kept back, and why.
+    pub(crate) fn note_kept_back(&self, number: u64, why: KeptBack) {
+        if let Some(address) = self.address(number) {
+            self.kept_back.set(Some((address, why)));
+        }
     }
 
     /// Notes a connection that was closed as it was accepted, and why.

@@ -10,22 +10,15 @@ use super::connection::Connection;
 use super::connections::{Connections, Reading};
 use super::door::{Doors, LAST_NUMBER, MOST_LISTENERS, Newcomer, Waiting};
 use super::facts::{GivenUp, PeerFacts};
-use super::network::Network;
+use super::logins::HeardLogins;
 use super::piece::Piece;
-use mio::net::TcpListener;
+use super::streams::{DEFAULT_CONNECTIONS, streams_for};
 use mio::{Events, Interest, Poll, Token};
 use smb_peers::{PeerEvent, Peers, SendFault};
 use std::alloc::Global;
-use std::io::ErrorKind;
-use std::net::Net;
+use std::net::{IpAddr, Net};
 use std::time::{Clock, Duration};
 use std::{io, net};
-
-/// For how many connections a listener is made where no number is said: as many as a share has under the default limits.
-pub const DEFAULT_CONNECTIONS: usize = 64;
-
-/// For how many connections a listener can be made.
-pub const MOST_CONNECTIONS: usize = 4_096;
 
 /// A turn that takes so long is dear: until one of the same peer does not, it is lent one frame at a time.
 const DEAR_TURN_MILLISECONDS: u64 = 4;
@@ -33,23 +26,24 @@ const DEAR_TURN_MILLISECONDS: u64 = 4;
 /// Fewer bytes than these that are owed to a peer wait for its answers to those that came with their requests.
 const SHORT_SEND: usize = 16_384;
 
-/// The streams of one listener or several, numbered from 1 as they are accepted, and read in turn: at most those of the connections that they
-/// are made for, and a newcomer's. All their room is made first, but for the counts of `with_address_limit`. All are looked at only where a
-/// limit of silence may have passed, and where a newcomer finds all places taken.
+/// The streams of one listener or several, numbered from 1 as they are accepted, and read in turn: at most those of the
+/// connections that they are made for, and a newcomer's. All their room is made first, but for the counts of
+/// `with_address_limit`. All are looked at only where a limit of silence may have passed, where a newcomer finds all
+/// places taken, and where an address begins or ends to be kept back.
 ///
-/// No call waits for a peer. A stream of which a send took only a part is not read until one takes all. One that neither says nor takes
-/// anything for as long as the idle limit has ended, as if by its peer; so has one that was never answered after a limit of its own. Where as
-/// many streams are open as the listener is made for and another one comes, that of those never answered which is silent longest has ended,
-/// and makes room for it.
+/// No call waits for a peer. A stream of which a send took only a part is not read until one takes all. One that
+/// neither says nor takes anything for as long as the idle limit has ended, as if by its peer; so has one that was
+/// never answered after a limit of its own. Where as many streams are open as the listener is made for and another one
+/// comes, that of those never answered which is silent longest has ended, and makes room for it.
 #[derive(Drop)]
 pub struct TcpPeers<'a, R: Net + Clock> {
     system: &'a R,
-    alloc: Global,
-    poll: Poll,
+    pub(crate) alloc: Global,
+    pub(crate) poll: Poll,
     events: Events,
-    doors: Doors,
-    admission: Admission,
-    connections: Connections,
+    pub(crate) doors: Doors,
+    pub(crate) admission: Admission,
+    pub(crate) connections: Connections,
     opened: u64,
     // The number of the stream that was looked at last.
     turn: u64,
@@ -61,19 +55,14 @@ pub struct TcpPeers<'a, R: Net + Clock> {
     // Since a start that is the system's own.
     time: Duration,
     // What is known of the peers, for others.
-    facts: Option<&'a PeerFacts>,
-}
-
-/// How many streams a listener keeps at most that is made for so many connections: one more. Fewer connections than 1 count as 1, and more
-/// than 4,096 as 4,096.
-pub(crate) fn streams_for(connections: usize) -> usize
-    ensures { result ≤ 4097 }
-{
-    connections.clamp(1, MOST_CONNECTIONS) + 1
+    pub(crate) facts: Option<&'a PeerFacts>,
+    // The logins that are noted, where wrong passwords are slowed down.
+    pub(crate) heard: Option<HeardLogins<'a>>,
 }
 
 impl<'a, R: Net + Clock> TcpPeers<'a, R> {
-    /// The peers of a listener. They never wait: where nothing is to do, `next` is `Idle` at once. There is no limit of silence.
+    /// The peers of a listener. They never wait: where nothing is to do, `next` is `Idle` at once. There is no limit of
+    /// silence.
     pub fn new(system: &'a R, alloc: Global, listener: net::TcpListener) -> io::Result<Self> {
         TcpPeers::waiting(system, alloc, listener, Duration::ZERO)
     }
@@ -113,64 +102,9 @@ impl<'a, R: Net + Clock> TcpPeers<'a, R> {
             wait,
             time: system.monotonic()?,
             facts: None,
+            heard: None,
         };
         peers.with_listener(listener)
-    }
-
-    /// With one more listener: there are 16 at most. The error of kind `InvalidInput` says that there are as many.
-    pub fn with_listener(mut self, listener: net::TcpListener) -> io::Result<Self> {
-        let Some(token) = self.doors.next_token() else {
-            return Err(io::Error::from(ErrorKind::InvalidInput));
-        };
-        listener.set_nonblocking(true)?;
-        let mut listener = TcpListener::from_std(listener);
-        self.poll
-            .registry()
-            .register(&mut listener, token, Interest::READABLE)?;
-        self.doors.add(listener)?;
-        Ok(self)
-    }
-
-    /// With a time after which a connection has ended that says nothing and takes nothing of what is sent to it. It is looked at
-    /// between two waits.
-    pub fn with_idle_limit(mut self, limit: Duration) -> Self {
-        self.connections.limit_idle(limit);
-        self
-    }
-
-    /// With a time after which a connection has ended that took nothing since it was accepted: it was never answered. It is looked
-    /// at between two waits.
-    pub fn with_unanswered_limit(mut self, limit: Duration) -> Self {
-        self.connections.limit_unanswered(limit);
-        self
-    }
-
-    /// With a number of bytes that all connections together may be owed. Where they are owed more, the one that is owed most has ended, as
-    /// if by its peer. (None of those is read any more, since they did not take what was sent: that alone bounds what one is owed, and not what
-    /// all are.)
-    pub fn with_owed_limit(mut self, limit: usize) -> Self {
-        self.connections.limit_owed(limit);
-        self
-    }
-
-    /// With the networks that clients are let in of. A connection of another one is closed as it is accepted: it has no number and no
-    /// place. It costs time for each network.
-    pub fn with_networks(mut self, networks: Vec<Network>) -> Self {
-        self.admission.limit_networks(networks);
-        self
-    }
-
-    /// With a number of connections of one address that are let in at a time. One more is closed as it is accepted. IPv6 addresses with the
-    /// same first 64 bits count as one.
-    pub fn with_address_limit(mut self, limit: usize) -> Self {
-        self.admission.limit_each(limit);
-        self
-    }
-
-    /// With a place where it is noted what is known of each peer.
-    pub fn with_facts(mut self, facts: &'a PeerFacts) -> Self {
-        self.facts = Some(facts);
-        self
     }
 
     /// Whether a stream and a number are free.
@@ -201,8 +135,8 @@ impl<'a, R: Net + Clock> TcpPeers<'a, R> {
         PeerEvent::Ended(number)
     }
 
-    /// Where all places are taken, that of the connection that makes room for another: of those that were never answered the one that is
-    /// silent longest.
+    /// Where all places are taken, that of the connection that makes room for another: of those that were never
+    /// answered the one that is silent longest.
     fn place_to_clear(&self) -> Option<usize>
         ensures { IfSome result (λ place. place < vec_len self.now.connections.list) }
     {
@@ -212,8 +146,8 @@ impl<'a, R: Net + Clock> TcpPeers<'a, R> {
         self.connections.longest_unanswered()
     }
 
-    /// Asks the system what is ready, and waits where nothing is left to do without a wait. Where no connection behind the turn may be read, a
-    /// new round begins.
+    /// Asks the system what is ready, and waits where nothing is left to do without a wait. Where no connection behind
+    /// the turn may be read, a new round begins.
     fn look(&mut self)
         ensures opened { self.new.opened ≡ self.old.opened }
     {
@@ -223,7 +157,11 @@ impl<'a, R: Net + Clock> TcpPeers<'a, R> {
             Waiting::Nobody => false,
         };
         let is_busy = comes || self.connections.has_ready();
-        let wait = if is_busy { Duration::ZERO } else { self.wait };
+        let wait = if is_busy {
+            Duration::ZERO
+        } else {
+            self.wait.min(self.connections.shortest_wait(self.time))
+        };
         if self.poll.poll(&mut self.events, Some(wait)).is_err() {
             self.failures = self.failures.saturating_add(1);
         }
@@ -232,12 +170,14 @@ impl<'a, R: Net + Clock> TcpPeers<'a, R> {
         }
         self.doors.try_again();
         self.connections.mark_all(&self.events, &mut self.doors);
+        self.connections.release(self.time);
         if self.next_place().is_none() {
             self.turn = 0;
         }
     }
 
-    /// Accepts a connection as the newcomer, where one waits at the listener of a place. One that is not let in is closed.
+    /// Accepts a connection as the newcomer, where one waits at the listener of a place. One that is not let in is
+    /// closed.
     fn accept(&mut self, place: usize)
         ensures opened { self.new.opened ≡ self.old.opened }
     {
@@ -255,8 +195,8 @@ impl<'a, R: Net + Clock> TcpPeers<'a, R> {
         }
     }
 
-    /// Takes in one connection as the newcomer, where one waits and there is room, and gives a newcomer the next number. Where all places
-    /// are taken, one that was never answered ends for it.
+    /// Takes in one connection as the newcomer, where one waits and there is room, and gives a newcomer the next
+    /// number. Where all places are taken, one that was never answered ends for it.
     fn take_newcomer(&mut self) -> Option<PeerEvent>
         ensures none { IfNone result (self.new.opened ≡ self.old.opened) }
         ensures once { IfSome result (λ event. OpensOnce event (numbers_to self.old.opened) (numbers_to self.new.opened)) }
@@ -322,7 +262,8 @@ impl<'a, R: Net + Clock> TcpPeers<'a, R> {
             self.failures = self.failures.saturating_add(1);
             return None;
         }
-        let connection = Connection::new(self.alloc, number, stream, address.ip(), self.time);
+        let mut connection = Connection::new(self.alloc, number, stream, address.ip(), self.time);
+        connection.kept_until = self.kept_until(address.ip());
         if !self.keep(connection) {
             self.failures = self.failures.saturating_add(1);
             return None;
@@ -334,8 +275,8 @@ impl<'a, R: Net + Clock> TcpPeers<'a, R> {
         Some(number)
     }
 
-    /// Reads from the connections in turn, up to the first that brings something. One whose turn was dear, or that asks for
-    /// listings, is lent one frame at a time, and the others between two of them.
+    /// Reads from the connections in turn, up to the first that brings something. One whose turn was dear, or that asks
+    /// for listings, is lent one frame at a time, and the others between two of them.
     fn read_on(&mut self) -> PeerEvent
         ensures { OpensOnce result (numbers_to self.old.opened) (numbers_to self.new.opened) }
     {
@@ -348,6 +289,39 @@ impl<'a, R: Net + Clock> TcpPeers<'a, R> {
             }
         }
         PeerEvent::Idle
+    }
+
+    /// Until when a connection of an address is kept back that opens now; None where it is not.
+    fn kept_until(&self, address: IpAddr) -> Option<Duration> {
+        let left = self.heard.as_ref()?.left(address, self.time);
+        if left.is_zero() {
+            return None;
+        }
+        Some(self.time.saturating_add(left))
+    }
+
+    /// Takes how the logins ended that came in the piece that was lent last, and says whether an address is kept back
+    /// by them.
+    fn take_logins(&mut self) -> bool
+        ensures opened { self.new.opened ≡ self.old.opened }
+    {
+        let Some(heard) = &mut self.heard else {
+            return false;
+        };
+        let Some(ended) = heard.logins.take() else {
+            return false;
+        };
+        let Some(place) = self.connections.place_of(self.turn) else {
+            return false;
+        };
+        let now = self.system.monotonic().unwrap_or(self.time);
+        let Some(kept_back) = heard.take(&mut self.connections, place, ended, now) else {
+            return false;
+        };
+        if let Some(facts) = self.facts {
+            facts.note_kept_back(self.turn, kept_back);
+        }
+        true
     }
 
     /// Notes whether the turn in which bytes were lent took long.
@@ -367,8 +341,8 @@ impl<'a, R: Net + Clock> TcpPeers<'a, R> {
         }
     }
 
-    /// Lends the peer at a place its next piece: of the bytes that were read last, where some of them wait, else of those that are kept
-    /// back. Where its turn is to be timed, it is noted when that began.
+    /// Lends the peer at a place its next piece: of the bytes that were read last, where some of them wait, else of
+    /// those that are kept back. Where its turn is to be timed, it is noted when that began.
     fn lend(&mut self, place: usize) -> PeerEvent
         requires { place < vec_len self.old.connections.list }
         ensures opened { self.new.opened ≡ self.old.opened }
@@ -384,8 +358,9 @@ impl<'a, R: Net + Clock> TcpPeers<'a, R> {
         PeerEvent::Bytes(number)
     }
 
-    /// Lends the next piece of the bytes that wait of the last read, where some do: they come before another read. Where their peer did not
-    /// take all that was sent to it, they are kept back, so that it is owed no more.
+    /// Lends the next piece of the bytes that wait of the last read, where some do: they come before another read.
+    /// Where their peer did not take all that was sent to it, they are kept back, so that it is owed no more; so they
+    /// are behind wrong passwords, whose answers are sent before a wait.
     fn lend_waiting(&mut self) -> Option<PeerEvent>
         ensures opened { self.new.opened ≡ self.old.opened }
         ensures once { IfSome result (λ event. OpensOnce event (numbers_to self.old.opened) (numbers_to self.old.opened)) }
@@ -395,7 +370,10 @@ impl<'a, R: Net + Clock> TcpPeers<'a, R> {
         }
         let place = self.connections.place_of(self.turn)?;
         if self.connections.keep_waiting(place, &mut self.piece) {
-            return None;
+            return self
+                .connections
+                .is_kept_back(place)
+                .then_some(PeerEvent::Idle);
         }
         Some(self.lend(place))
     }
@@ -436,6 +414,9 @@ impl<R: Net + Clock> Peers for TcpPeers<'_, R> {
 
     fn next(&mut self) -> PeerEvent {
         self.note_turn();
+        if self.take_logins() {
+            return PeerEvent::Idle;
+        }
         if self.failures == u64::MAX {
             self.piece.clear();
             return PeerEvent::Idle;
@@ -481,6 +462,7 @@ impl<R: Net + Clock> Peers for TcpPeers<'_, R> {
     }
 
     fn close(&mut self, number: u64) {
+        let _ = self.take_logins();
         if let Some(address) = self.connections.remove(number) {
             self.admission.remove(address);
         }
