@@ -30,9 +30,9 @@ def keeping(program, *words, **limits):
     return program.serve('--config', GUEST, *words, **limits)
 
 
-def begins_to_keep(program, file, *words, **how):
+def begins_to_keep(program, file, *words, form='--journal', **how):
     """A process of the program that begins to serve a share, which it keeps in a file."""
-    words = ('serve', '--listen', '127.0.0.1:0', '--config', GUEST, *words, '--journal', file)
+    words = ('serve', '--listen', '127.0.0.1:0', '--config', GUEST, *words, form, file)
     return program.begins(*words, **{'stderr': subprocess.DEVNULL, **how})
 
 

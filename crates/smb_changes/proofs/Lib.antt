@@ -5,3 +5,4 @@ pub mod Kept
 pub mod Reading
 pub mod WrongBatches
 pub mod Chain
+pub mod Exact

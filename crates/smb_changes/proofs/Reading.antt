@@ -34,7 +34,7 @@ module _ (kind size number second : ℕ) (whole bytes own rest : List ℕ) where
       rw (e, ← f, le-leb (24 + size) (length bytes) fits, behind, ← g, ← h, ← i) (ap (option_map (λ (change : Change). (change, rest))) k)
 
 -- the first of some bytes are bytes
-each_taken : (n : ℕ) (bytes : List ℕ) → IsBytes bytes → IsBytes (take n bytes)
+pub each_taken : (n : ℕ) (bytes : List ℕ) → IsBytes bytes → IsBytes (take n bytes)
 each_taken n bytes each = λ i. elim (leb_tells n i) [
   | inl h ↦ omega (arith, get_or_past (take n bytes) i 0 (omega (arith, length-take n bytes)))
   | inr h ↦ omega (arith, get_or-take n bytes i 0 (omega arith), each i)

@@ -2,3 +2,4 @@ pub mod Batches
 pub mod Crash
 pub mod Shown
 pub mod Chains
+pub mod Exact

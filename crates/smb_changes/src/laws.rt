@@ -2,6 +2,7 @@
 
 ghost use Rattle.smb_changes.specs.Crash.{WhatIsWrittenIsRead, ACrashLeavesWholeBatches, ACrashIsNoDamage};
 ghost use Rattle.smb_changes.specs.Chains.{ABatchOfAnotherChainIsNotRead};
+ghost use Rattle.smb_changes.specs.Exact.{OnlyAWrittenChangeIsRead, OnlyAWrittenBatchIsRead};
 
 /// The laws of batches: the contract is the statement, and the body does nothing. Each law speaks of every seed, and of
 /// any batches whose numbers fit their bytes, as [`put_change`](crate::put_change) ensures of each change (`writable`).
@@ -13,9 +14,13 @@ ghost use Rattle.smb_changes.specs.Chains.{ABatchOfAnotherChainIsNotRead};
 ///   whole is lost.
 /// - `damage`: such a beginning is not taken for damage, so that after a crash nothing is refused.
 /// - `chain`: a batch that was written by another seed, of 64 bits, is not read, though its number is right.
+/// - `exact_change`, `exact`: bytes that are read as a change, or as a batch, are those that are written of it, and its
+///   numbers fit their bytes: nothing has a second spelling.
 pub fn laws_of_batches()
     ensures written { WhatIsWrittenIsRead }
     ensures crash { ACrashLeavesWholeBatches }
     ensures damage { ACrashIsNoDamage }
     ensures chain { ABatchOfAnotherChainIsNotRead }
+    ensures exact_change { OnlyAWrittenChangeIsRead }
+    ensures exact { OnlyAWrittenBatchIsRead }
 {}

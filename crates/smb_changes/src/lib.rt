@@ -9,12 +9,14 @@
 //! and each is chained to the one before it: both its checks are begun with a seed, which is the check in the back of
 //! the batch before, and of the first batch a number that is kept elsewhere. So a batch that was written by another
 //! seed is never read, though its number is right. [`check_of`] finds damage, and keeps nobody from writing what he
-//! likes. [`read_batch`] reads the batch of a number and a seed, and gives the seed of the next.
+//! likes. [`is_front`] says whether 24 bytes are a batch's front, and [`read_batch`] reads the batch of a number and a
+//! seed, and gives the seed of the next.
 //!
 //! The last byte of a batch is not 0. So of a beginning of the bytes, with zeros behind it or none, those batches are
 //! read that lie wholly in it, and no other, whatever the checks say. That, and that no such beginning is taken for
-//! damage, is the contract of [`laws_of_batches`] (`specs/Crash.antt`, `specs/Chains.antt`). That a file keeps what was
-//! written in order, up to some byte, is not proved here, nor that other damage is found.
+//! damage, is the contract of [`laws_of_batches`] (`specs/Crash.antt`, `specs/Chains.antt`); so is that bytes have no
+//! second spelling: those that are read as a batch are those that are written of its changes (`specs/Exact.antt`). That
+//! a file keeps what was written in order, up to some byte, is not proved here, nor that other damage is found.
 #![tactic(auto)]
 
 mod batch;
@@ -25,4 +27,4 @@ mod read;
 pub use batch::{check_of, put_batch};
 pub use change::{Change, put_change};
 pub use laws::laws_of_batches;
-pub use read::{BatchView, read_batch, read_change};
+pub use read::{BatchView, is_front, read_batch, read_change};

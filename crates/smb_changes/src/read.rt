@@ -115,8 +115,9 @@ fn are_changes(bytes: &[u8]) -> bool
     rest.is_empty()
 }
 
-// Whether 24 bytes are the front of a batch of this number.
-fn is_front(seed: u64, number: u64, bytes: &[u8]) -> bool
+/// Whether 24 bytes are the front of a batch of this number and this seed. A front says in its first 8 bytes how many
+/// bytes the changes have.
+pub fn is_front(seed: u64, number: u64, bytes: &[u8]) -> bool
     requires { length bytes.now ≡ 24 }
     ensures { result ≡ has_front seed number bytes.now }
 {

@@ -199,6 +199,15 @@ const JOURNAL: OptionRow = OptionRow {
     help: "Keeps all that happens in FILE, before it is answered, and begins with what FILE holds where it exists",
 };
 
+/// A journal of changes.
+const CHANGES: OptionRow = OptionRow {
+    name: "changes",
+    takes: Takes::Text("FILE"),
+    needed: Needed::Never,
+    bars: &["journal", "record", "from"],
+    help: "Keeps the share's files in FILE: what changes, before it is answered, and nothing else; begins with the files that FILE keeps where it exists",
+};
+
 /// A record.
 const RECORD: OptionRow = OptionRow {
     name: "record",
@@ -339,6 +348,7 @@ const PERFORMING: &[CommandRow] = &[
             IDLE_NEW,
             OWED,
             JOURNAL,
+            CHANGES,
             RECORD,
             SYNC,
             LOG,

@@ -66,8 +66,9 @@ pub fn login_of(command: Option<(&str, &ArgMatches<'_>)>) -> Result<Login, &'sta
         Some(("serve", words))
             if words.get_flag("sync")
                 && words.get_str("journal").is_none()
+                && words.get_str("changes").is_none()
                 && words.get_str("record").is_none() => {
-            Err("--sync is only taken with --journal or --record")
+            Err("--sync is only taken with --journal, --changes or --record")
         }
         Some(("serve", words)) if words.get_flag("log-must") && words.get_str("log").is_none() => {
             Err("--log-level and --log-must are only taken with --log")

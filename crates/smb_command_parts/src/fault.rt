@@ -5,7 +5,7 @@ use smb_accounts_file::{AccountsFault, PasswordFault};
 use smb_config::ConfigFault;
 use smb_folder::FolderFault;
 use smb_journal::{Form, JournalFault};
-use smb_kept::KeptFault;
+use smb_kept::{ChangesFault, KeptFault};
 use smb_reason::{Reason, Shown};
 use smb_replay::{CommandFault, Detail, Given, ListenFault};
 use smb_sharing::SharingFault;
@@ -29,6 +29,8 @@ pub enum Fault {
     Sharing(SharingFault),
     /// A file that a share is recorded in can't be read or written.
     Recording(RecordingFault),
+    /// A journal of changes can't be read, begun with or written.
+    Changes(ChangesFileFault),
     /// The file of a log can't be opened or made, for this reason.
     Log(Reason),
     /// A line of the log could not be written, which had to be. Standard error has its line already.
@@ -66,6 +68,14 @@ pub struct RecordingFault {
     fault: JournalFault,
 }
 
+/// Why a share can't be kept in a journal of changes.
+#[derive(Debug, Drop)]
+pub struct ChangesFileFault {
+    /// The file's name, as it was given.
+    path: String,
+    fault: ChangesFault,
+}
+
 /// Writes what is printed of a share that cannot be kept, where there is memory and the configuration is none of its faults.
 fn report_kept<E: Write>(fault: &KeptFault, errors: &mut E) {
     let _ = match fault {
@@ -74,6 +84,7 @@ fn report_kept<E: Write>(fault: &KeptFault, errors: &mut E) {
         KeptFault::RecordFailed(reason) => writeln!(errors, "record: cannot be written: {reason}"),
         KeptFault::Folder(fault) => writeln!(errors, "folder: {fault}"),
         KeptFault::Copied(fault) => writeln!(errors, "journal: {fault}"),
+        KeptFault::Changes(fault) => writeln!(errors, "changes: {fault}"),
     };
 }
 
@@ -95,6 +106,19 @@ fn file_fault_of(fault: &KeptFault) -> Option<JournalFault> {
         KeptFault::Journal(JournalFault::Unread(reason)) => Some(JournalFault::Unread(*reason)),
         KeptFault::Journal(JournalFault::Unwritten(reason)) | KeptFault::RecordFailed(reason) => {
             Some(JournalFault::Unwritten(*reason))
+        }
+        _ => None,
+    }
+}
+
+/// What a share that cannot be kept is among the faults of a journal of changes, where it is one.
+fn changes_fault_of(fault: &KeptFault) -> Option<ChangesFault> {
+    match fault {
+        KeptFault::Changes(fault) => Some(*fault),
+        KeptFault::Journal(JournalFault::NoMemory) => None,
+        KeptFault::Journal(fault) => Some(ChangesFault::File(*fault)),
+        KeptFault::RecordFailed(reason) => {
+            Some(ChangesFault::File(JournalFault::Unwritten(*reason)))
         }
         _ => None,
     }
@@ -128,6 +152,14 @@ impl AddressFault {
     }
 }
 
+impl ChangesFileFault {
+    /// Writes what is printed of it, in one line.
+    fn report<E: Write>(&self, errors: &mut E) {
+        let path = Shown(self.path.as_bytes());
+        let _ = writeln!(errors, "changes: {path}: {}", self.fault);
+    }
+}
+
 impl RecordingFault {
     /// Writes what is printed of it, in one line.
     fn report<E: Write>(&self, errors: &mut E) {
@@ -147,6 +179,20 @@ impl Fault {
         };
         match String::from_str(alloc, path) {
             Ok(path) => Fault::Recording(RecordingFault { form, path, fault }),
+            Err(error) => Fault::from(error),
+        }
+    }
+
+    /// The same fault with the name of its file, where it is that a share can't be kept in a journal of changes.
+    pub fn of_changes(self, alloc: Global, path: &str) -> Fault {
+        let Fault::Kept(kept) = &self else {
+            return self;
+        };
+        let Some(fault) = changes_fault_of(kept) else {
+            return self;
+        };
+        match String::from_str(alloc, path) {
+            Ok(path) => Fault::Changes(ChangesFileFault { path, fault }),
             Err(error) => Fault::from(error),
         }
     }
@@ -196,6 +242,10 @@ impl Fault {
                 1
             }
             Fault::Recording(fault) => {
+                fault.report(errors);
+                1
+            }
+            Fault::Changes(fault) => {
                 fault.report(errors);
                 1
             }

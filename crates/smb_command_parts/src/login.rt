@@ -33,6 +33,15 @@ pub fn random_seed() -> Result<[u8; 16], CommandFault> {
     }
 }
 
+/// A random number of the system.
+pub fn random_number() -> Result<u64, CommandFault> {
+    let mut number = 0u64;
+    for byte in random_seed()? {
+        number = (number << 8) | byte as u64;
+    }
+    Ok(number)
+}
+
 /// A seed that is given, or one of the system's.
 fn given_or_random(seed: Option<[u8; 16]>) -> Result<[u8; 16], CommandFault> {
     match seed {

@@ -34,7 +34,7 @@ fn new_share(alloc: Global, login: Ntlm) -> anyhow::Result<Share<Ntlm, NodeTree,
     Ok(Share::in_memory(alloc, config, login)?)
 }
 
-/// Serves a share at a free port for so many turns, each of which waits a millisecond for clients.
+/// Serves a share at a free port for a number of turns, each of which waits a millisecond for clients.
 pub(crate) fn run(rt: &HostRuntime, turns: u64) -> anyhow::Result<()> {
     let alloc = rt.alloc();
     let listener = TcpListener::bind(rt, "127.0.0.1:0")?;

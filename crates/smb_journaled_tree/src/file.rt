@@ -4,8 +4,10 @@ ghost use Rattle.std.specs.Prelude.{◌≡◌, ◌++◌, [], OnOk, OnErr, length
 ghost use Rattle.smb_journaled_tree.specs.Journal.{AddsPart};
 ghost use Rattle.smb_journaled_tree.specs.declared.file.JournalFault.TheVariants.{NoMemory};
 
+use smb_reason::Reason;
 use smb_wire::WireFault;
 use std::alloc::{AllocError, Global};
+use std::io::ErrorKind;
 use std::marker::Model;
 use thiserror::Error;
 
@@ -16,8 +18,17 @@ pub enum JournalFault {
     #[error("no memory")]
     NoMemory,
     /// The file refused.
-    #[error("not written")]
-    NotWritten,
+    #[error("not written: {0}")]
+    NotWritten(Reason),
+}
+
+impl From<JournalFault> for Reason {
+    fn from(fault: JournalFault) -> Reason {
+        match fault {
+            JournalFault::NoMemory => Reason(ErrorKind::OutOfMemory),
+            JournalFault::NotWritten(reason) => reason,
+        }
+    }
 }
 
 impl From<AllocError> for JournalFault {
@@ -48,9 +59,9 @@ pub trait JournalFile {
         ensures { result ≡ length (held self.now) };
 
     /// Puts bytes behind those that it has. After an error some of them are there, from the first on, and not all.
-    fn append(&mut self, bytes: &[u8]) -> Result<(), JournalFault>
-        ensures ok { OnOk result (held self.new ≡ held self.old ++ bytes.now) }
-        ensures err { OnErr result (AddsPart (held self.old) bytes.now (held self.new)) };
+    fn append(&mut self, bytes: &Vec<u8>) -> Result<(), JournalFault>
+        ensures ok { OnOk result (held self.new ≡ held self.old ++ bytes.now.items) }
+        ensures err { OnErr result (AddsPart (held self.old) bytes.now.items (held self.new)) };
 
     /// Cuts the file to its first `size` bytes. After an error it has all of its bytes.
     fn cut(&mut self, size: u64) -> Result<(), JournalFault>
@@ -101,7 +112,7 @@ impl JournalFile for MemoryFile {
         self.bytes.len() as u64
     }
 
-    fn append(&mut self, bytes: &[u8]) -> Result<(), JournalFault> {
+    fn append(&mut self, bytes: &Vec<u8>) -> Result<(), JournalFault> {
         if bytes.is_empty() {
             return Ok(());
         }

@@ -9,12 +9,23 @@ use super::notes::{begin_file, note_dirty};
 use super::slots::{Slots, slots_of};
 use super::torn::{append, mend};
 use smb_changes::{Change, put_batch, put_change};
+use smb_reason::Reason;
 use smb_tree::{Basic, Children, EntryCopy, EntryNo, EntryView, Kind, Tree, TreeFault};
 use smb_wire::limits::Limits;
 use smb_wire::{FileAttributes, FoldedName, PathView};
 use std::alloc::Global;
 use std::marker::Model;
 use std::snapshot::Snapshot;
+
+/// Where the batches of a journal go on.
+#[derive(Clone, Copy, Debug)]
+pub struct Chain {
+    /// The seed of the first batch.
+    pub first: u64,
+    /// The number and the seed of the next one.
+    pub number: u64,
+    pub seed: u64,
+}
 
 /// A tree whose changes are kept in a journal. It has the content of the tree that it holds, and every call of that one.
 ///
@@ -59,24 +70,29 @@ impl<T: Tree + Drop, J: JournalFile + Drop> JournaledTree<T, J> {
     ghost use Rattle.std.specs.List.{list_any};
     ghost use Rattle.smb_journaled_tree.specs.Written.{IsWritten, IsNew};
 
-    /// Goes on with a good tree whose files are what a file's whole batches make. Behind these the file has nothing; the
-    /// next batch gets this number and this seed. `numbers` are those of all entries.
+    /// Goes on with a good tree whose files are what a file's whole batches make. Behind these the file has nothing.
+    /// `numbers` are those of all entries, and `entries` is how many there are, the root among them.
     ///
     /// A slot for each entry takes memory: [`JournalFault::NoMemory`] is the only refusal.
     pub fn resume(
         alloc: Global,
         tree: T,
         file: J,
-        first: u64,
-        number: u64,
-        seed: u64,
+        chain: Chain,
         numbers: &[EntryNo],
+        entries: usize,
     ) -> Result<Self, JournalFault>
         requires good { GoodContent (T.content tree) }
-        requires written { IsWritten (T.content tree) (J.held file) first number seed }
+        requires written { IsWritten (T.content tree) (J.held file) chain.first chain.number chain.seed }
         requires all { (q : ℕ) (row : Row) → numbered (T.content tree).rows q ≡ Some row → list_any (λ other. q == other) numbers.now ≡ true }
-        requires counted { length numbers.now ≡ length (T.content tree).rows }
-        ensures ok { IfOk result (λ journal. journal ≡ record { content = T.content tree; settled = T.content tree; seed = first; whole = length (J.held file); bytes = J.held file }) }
+        requires counted { entries ≡ length (T.content tree).rows }
+        ensures ok { IfOk result (λ journal. journal ≡ record {
+          content = T.content tree;
+          settled = T.content tree;
+          seed = chain.first;
+          whole = length (J.held file);
+          bytes = J.held file;
+        }) }
     {
         let slots = slots_of(alloc, numbers)?;
         let settled = Snapshot::of(&tree);
@@ -85,12 +101,12 @@ impl<T: Tree + Drop, J: JournalFile + Drop> JournaledTree<T, J> {
             tree,
             file,
             torn: None,
-            first,
-            number,
-            seed,
+            first: chain.first,
+            number: chain.number,
+            seed: chain.seed,
             pending: Vec::new(alloc),
             slots,
-            entries: numbers.len(),
+            entries,
             settled,
         })
     }
@@ -103,7 +119,12 @@ impl<T: Tree + Drop, J: JournalFile + Drop> JournaledTree<T, J> {
     {
         let mut file = file;
         let next = begin_file(alloc, &tree, &mut file, seed)?;
-        JournaledTree::resume(alloc, tree, file, seed, 2, next, &[1])
+        let chain = Chain {
+            first: seed,
+            number: 2,
+            seed: next,
+        };
+        JournaledTree::resume(alloc, tree, file, chain, &[1], 1)
     }
 
     /// The file's whole batches keep the files of the content that was settled last, whatever is lost behind them. The
@@ -341,5 +362,12 @@ impl<T: Tree + Drop, J: JournalFile + Drop> Tree for JournaledTree<T, J> {
         }
         self.entries -= 1;
         Ok(())
+    }
+
+    fn keep_changes(&mut self) -> Result<(), Reason> {
+        match self.settle() {
+            Ok(()) => Ok(()),
+            Err(fault) => Err(Reason::from(fault)),
+        }
     }
 }

@@ -21,4 +21,4 @@ mod slots;
 mod torn;
 
 pub use file::{JournalFault, JournalFile, MemoryFile};
-pub use journal::JournaledTree;
+pub use journal::{Chain, JournaledTree};

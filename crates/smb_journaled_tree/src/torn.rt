@@ -24,13 +24,13 @@ pub fn mend<J: JournalFile>(file: &mut J, torn: &mut Option<u64>) -> Result<(), 
 pub fn append<J: JournalFile>(
     file: &mut J,
     torn: &mut Option<u64>,
-    batch: &[u8],
+    batch: &Vec<u8>,
 ) -> Result<(), JournalFault>
     requires { torn.old ≡ None }
     ensures whole { OnOk result (torn.new ≡ None) }
-    ensures ok { OnOk result (J.held file.new ≡ J.held file.old ++ batch.now) }
+    ensures ok { OnOk result (J.held file.new ≡ J.held file.old ++ batch.now.items) }
     ensures torn { OnErr result (torn.new ≡ Some (length (J.held file.old))) }
-    ensures err { OnErr result (AddsPart (J.held file.old) batch.now (J.held file.new)) }
+    ensures err { OnErr result (AddsPart (J.held file.old) batch.now.items (J.held file.new)) }
 {
     let whole = file.len();
     match file.append(batch) {

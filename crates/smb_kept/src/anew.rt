@@ -152,8 +152,8 @@ fn write_copy<S: Store + Drop>(
     }
 }
 
-/// Writes to a store, as a journal, what makes the files that the recording in a file leaves. All of it is settled then. The token is that
-/// of the program's own client in the share that is made for it, and nobody else is to know it.
+/// Writes to a store, as a journal, what makes the files that the recording in a file leaves. All of it is settled
+/// then. The token is that of the program's own client in the share that is made for it, and nobody else is to know it.
 pub fn write_journal<S: Store + Drop>(
     rt: &HostRuntime,
     file: &str,

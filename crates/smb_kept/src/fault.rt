@@ -1,8 +1,10 @@
 //! Why a share cannot be kept, or not be gone on with.
 
+use crate::changes::ChangesFault;
 use smb_client::ClientFault;
 use smb_folder::FolderFault;
 use smb_journal::JournalFault;
+use smb_journal_start::StartFault;
 use smb_reason::Reason;
 use std::alloc::AllocError;
 use std::io::ErrorKind;
@@ -21,9 +23,19 @@ pub enum KeptFault {
     Folder(FolderFault),
     /// A file or folder of a recording that can't be made by requests.
     Copied(FolderFault),
+    /// A journal of changes.
+    Changes(ChangesFault),
 }
 
 impl KeptFault {
+    /// The fault of a journal of changes with which a share can't begin.
+    pub(crate) fn of_start(fault: StartFault) -> KeptFault {
+        match fault {
+            StartFault::NoMemory => KeptFault::NoMemory,
+            fault => KeptFault::Changes(ChangesFault::Start(fault)),
+        }
+    }
+
     /// The fault of a copy, where a fault is one of a file or folder.
     pub(crate) fn of_copy(self) -> KeptFault {
         match self {

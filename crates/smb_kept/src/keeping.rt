@@ -23,8 +23,8 @@ pub struct KeepWords<'a> {
     pub settles: bool,
 }
 
-/// A file in which a share is to be recorded, which this program has to itself. Nothing is performed of what it says, and nothing
-/// written to it yet.
+/// A file in which a share is to be recorded, which this program has to itself. Nothing is performed of what it says,
+/// and nothing written to it yet.
 #[derive(Drop)]
 pub struct Keeping<'w> {
     words: KeepWords<'w>,
@@ -61,8 +61,8 @@ fn open_file(rt: &HostRuntime, words: KeepWords<'_>) -> Result<(File, bool), Kep
     Ok((lock(made)?, true))
 }
 
-/// How many bytes a file has that has nothing but the beginning of a first line, since it was made, and the program was ended before
-/// that line was written; None of any other file.
+/// How many bytes a file has that has nothing but the beginning of a first line, since it was made, and the program was
+/// ended before that line was written; None of any other file.
 fn begun_bytes(rt: &HostRuntime, path: &str, header: &Header) -> Result<Option<u64>, KeptFault> {
     let line = header.line(rt.alloc())?;
     let bytes = first_bytes(rt, path, line.len())?;
@@ -70,8 +70,8 @@ fn begun_bytes(rt: &HostRuntime, path: &str, header: &Header) -> Result<Option<u
     Ok(is_begun.then_some(bytes.len() as u64))
 }
 
-/// Takes off what a file has that has the beginning of a first line alone, and returns how many bytes these were; None of a file that is
-/// to be gone on with.
+/// Takes off what a file has that has the beginning of a first line alone, and returns how many bytes these were; None
+/// of a file that is to be gone on with.
 fn cut_begun(
     rt: &HostRuntime,
     path: &str,
@@ -114,8 +114,8 @@ fn check_header(found: &Header, header: &Header) -> Result<(), JournalFault> {
 }
 
 impl<'w> Keeping<'w> {
-    /// Opens the file, or makes it, for a share of a configuration whose authenticator offers `hello` first, and has each
-    /// session that it signs sign its requests, or not.
+    /// Opens the file, or makes it, for a share of a configuration whose authenticator offers `hello` first, and has
+    /// each session that it signs sign its requests, or not.
     pub fn open(
         rt: &HostRuntime,
         words: KeepWords<'w>,
@@ -216,7 +216,8 @@ impl<'w> Keeping<'w> {
         }
     }
 
-    /// Makes the file of a record, for a share that begins with the files of a folder, under another name: it gets its own by
+    /// Makes the file of a record, for a share that begins with the files of a folder, under another name: it gets its
+    /// own by
     /// [`KeepWords::give_name`] once all of them are put in. An older one of that name goes.
     pub fn make(
         rt: &HostRuntime,

@@ -64,8 +64,8 @@ fn take_left(
     })
 }
 
-/// Makes a new folder of the files and folders that the recording in a file leaves, and returns what is missing there. The token is that of
-/// the program's own client in the share that is made for it, and nobody else is to know it.
+/// Makes a new folder of the files and folders that the recording in a file leaves, and returns what is missing there.
+/// The token is that of the program's own client in the share that is made for it, and nobody else is to know it.
 pub fn extract(
     rt: &HostRuntime,
     file: &str,

@@ -40,8 +40,8 @@ impl<
     S: Store + Drop,
     C: Clock,
 > OwnLine<'a, A, T, O, S, C> {
-    /// A connection to a share whose authenticator lets the program's own client in first, which is recorded as `answer` has it; with
-    /// None it is not.
+    /// A connection to a share whose authenticator lets the program's own client in first, which is recorded as
+    /// `answer` has it; with None it is not.
     pub fn new(
         share: &'a mut Share<A, T, O>,
         recorder: &'a mut Recorder<S>,
@@ -182,8 +182,8 @@ pub(crate) fn put_in<
     put_and_kept(put, line.end(connection))
 }
 
-/// Puts the files of a folder of the system into a new share of this path and these limits, whose authenticator lets the program's own
-/// client in first. On a terminal standard error has a line a second of how far it is.
+/// Puts the files of a folder of the system into a new share of this path and these limits, whose authenticator lets
+/// the program's own client in first. On a terminal standard error has a line a second of how far it is.
 ///
 /// What can't be in the share is a [`KeptFault::Folder`]: what was put in before is in it then.
 pub fn put_folder_in<

@@ -25,7 +25,8 @@ pub fn share_of<A: Authenticator + Drop>(
     }
 }
 
-/// An authenticator that offers `hello` first, of at most 4,096 bytes, gives these answers, and then asks the one behind.
+/// An authenticator that offers `hello` first, of at most 4,096 bytes, gives these answers, and then asks the one
+/// behind.
 ///
 /// [`JournalFault::NoRecording`] where `hello` is longer.
 pub fn recorded_login<'m, A: Authenticator + Drop>(

@@ -5,15 +5,19 @@
 //!    share_folder     a folder's files, by a configuration and accounts that are made for them
 //! ```
 //!
-//! A caller reads the words of a command and the texts of its files (smb_command_line), and hands them on. What ends a command is a
+//! A caller reads the words of a command and the texts of its files (smb_command_line), and hands them on. What ends a
+//! command is a
 //! `Fault` of smb_command_parts.
 //!
-//! Its calls have no clauses: that they are safe and return is proved, and what they do is tested over the program (docs/TESTING.md).
+//! Its calls have no clauses: that they are safe and return is proved, and what they do is tested over the program
+//! (docs/TESTING.md).
 #![tactic(auto)]
 
 mod clock;
+mod heard_login;
 mod logging;
 mod serve;
+mod served_changes;
 mod served_record;
 mod share;
 mod shortening;
@@ -22,5 +26,5 @@ pub use logging::TcpFacts;
 pub use serve::{ServeWords, serve_share};
 pub use share::share_folder;
 pub use smb_journal::Form;
-pub use smb_kept::KeepWords;
+pub use smb_kept::{ChangesWords, KeepWords};
 pub use smb_sharing::SharingWords;

@@ -1,7 +1,9 @@
 //! The command `serve`: a share to clients over TCP.
 
 use crate::clock::ServeClock;
+use crate::heard_login::HeardLogin;
 use crate::logging::{ServedLog, ServedPeers, TcpFacts, served_log};
+use crate::served_changes::serve_changes;
 use crate::served_record::{Serving, serve_folder, serve_recorded, serve_recorded_folder};
 use crate::shortening::write_anew_or_say;
 use mio::net::TcpListener;
@@ -12,7 +14,7 @@ use smb_command_parts::{
 use smb_config::Configuration;
 use smb_engine::{Authenticator, HandleTable, NodeTree, Share};
 use smb_journal::LimitedConfig;
-use smb_kept::{KeepWords, share_of};
+use smb_kept::{ChangesWords, KeepWords, share_of};
 use smb_log::{LogObserver, LoggedPeers};
 use smb_peers::Usage;
 use smb_replay::{CommandFault, ListenFault, check_unsigned};
@@ -49,6 +51,8 @@ pub struct ServeWords<'a> {
     pub most_owed: u64,
     /// Where the share is recorded, if it is.
     pub record: Option<KeepWords<'a>>,
+    /// Where its changes are kept, if they are.
+    pub changes: Option<ChangesWords<'a>>,
     /// The folder whose files the share begins with.
     pub from: Option<&'a str>,
     /// The moment of the first piece, for tests.
@@ -97,8 +101,8 @@ fn listen_all(rt: &HostRuntime, addresses: &[&str]) -> Result<Vec<net::TcpListen
     Ok(listeners)
 }
 
-/// Says on standard error where listeners are, with the port that the system gave for port 0, and of a folder what is shared there: at
-/// the first address that other machines reach, or the first one.
+/// Says on standard error where listeners are, with the port that the system gave for port 0, and of a folder what is
+/// shared there: at the first address that other machines reach, or the first one.
 fn announce(rt: &HostRuntime, listeners: &[net::TcpListener], said: Option<&Said>) {
     let mut shown: Option<SocketAddr> = None;
     for listener in listeners {
@@ -117,8 +121,8 @@ fn announce(rt: &HostRuntime, listeners: &[net::TcpListener], said: Option<&Said
     }
 }
 
-/// Listeners at the addresses of the words, once the share is ready. Standard error has a line for each address, and each reason why
-/// somebody can't log in.
+/// Listeners at the addresses of the words, once the share is ready. Standard error has a line for each address, and
+/// each reason why somebody can't log in.
 fn begin_to_listen(
     rt: &HostRuntime,
     words: &ServeWords<'_>,
@@ -148,7 +152,8 @@ fn waiting_peers<'a>(
     Ok(peers)
 }
 
-/// The peers of listeners, as many as there may be connections, with the limits that the words say.
+/// The peers of listeners, as many as there may be connections, with the limits that the words say. Wrong passwords are
+/// slowed down, but by a clock for tests.
 fn peers_of<'a>(
     rt: &'a HostRuntime,
     words: &ServeWords<'a>,
@@ -175,10 +180,14 @@ fn peers_of<'a>(
     if words.log.is_some() {
         peers = peers.with_facts(&words.facts.peers);
     }
+    if words.clock.is_none() {
+        peers = peers.with_login_delay(&words.facts.logins)?;
+    }
     Ok(peers)
 }
 
-/// The peers of a share whose next connection has the number `next`, once it listens: all of them are logged, where there is a log.
+/// The peers of a share whose next connection has the number `next`, once it listens: all of them are logged, where
+/// there is a log.
 pub fn listening_peers<'l, 'a: 'l>(
     rt: &'a HostRuntime,
     words: &ServeWords<'a>,
@@ -274,6 +283,10 @@ fn serve_by<A: Authenticator + Drop>(
     };
     drop(hosts_of(rt.alloc(), words.hosts)?);
     drop(listen_all(rt, words.listen)?);
+    let authenticator = HeardLogin::new(authenticator, &words.facts.logins);
+    if let Some(changes) = words.changes {
+        return serve_changes(serving, changes, limited, authenticator);
+    }
     match (words.record, words.from) {
         (Some(record), Some(folder)) => {
             serve_recorded_folder(serving, record, folder, limited, authenticator)
@@ -345,11 +358,12 @@ fn serve_shortened(rt: &HostRuntime, words: &ServeWords<'_>) -> Result<(), Fault
     Ok(())
 }
 
-/// Serves a share of a configuration, for so many turns. A journal that is much longer than its files ask for is written anew first;
-/// where that can't be done, standard error says why, and it is gone on with as it is.
+/// Serves a share of a configuration, for so many turns. A journal that is much longer than its files ask for is
+/// written anew first; where that can't be done, standard error says why, and it is gone on with as it is.
 pub fn serve_share(rt: &HostRuntime, words: &ServeWords<'_>) -> Result<(), Fault> {
-    match (serve_shortened(rt, words), words.record) {
-        (Err(fault), Some(record)) => Err(fault.of_file(rt.alloc(), record.form, record.path)),
-        (served, _) => served,
+    match (serve_shortened(rt, words), words.record, words.changes) {
+        (Err(fault), Some(record), _) => Err(fault.of_file(rt.alloc(), record.form, record.path)),
+        (Err(fault), None, Some(changes)) => Err(fault.of_changes(rt.alloc(), changes.path)),
+        (served, _, _) => served,
     }
 }

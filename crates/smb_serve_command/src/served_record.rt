@@ -168,8 +168,8 @@ fn fill<A: Authenticator + Drop>(
     Ok(put_folder_in(serving.rt, serving.limits, folder, path, &mut line)?)
 }
 
-/// Serves a share of a path that begins with the files of a folder, and is recorded: in a file that was made, and that gets its name once
-/// all of them are put in.
+/// Serves a share of a path that begins with the files of a folder, and is recorded: in a file that was made, and that
+/// gets its name once all of them are put in.
 fn serve_filled<A: Authenticator + Drop>(
     serving: Serving<'_, '_>,
     folder: &str,
@@ -242,7 +242,8 @@ fn serve_parts<A: Authenticator + Drop>(
     }
 }
 
-/// Serves a share of its parts, which is kept, and begins with the files of a folder. None of its record is there after a fault.
+/// Serves a share of its parts, which is kept, and begins with the files of a folder. None of its record is there after
+/// a fault.
 fn serve_filled_parts<A: Authenticator + Drop>(
     serving: Serving<'_, '_>,
     folder: &str,

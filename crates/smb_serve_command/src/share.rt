@@ -174,6 +174,7 @@ fn serve_words<'a>(
         unanswered_seconds: UNANSWERED_SECONDS,
         most_owed: MOST_OWED,
         record,
+        changes: None,
         from: if goes_on { None } else { Some(words.folder) },
         clock: None,
         log: None,

@@ -9,7 +9,7 @@ use smb_commands::{account, check, compact, extract, print_recording, replay_inp
 use smb_config::BUILT_IN;
 use smb_replay::{CommandFault, Detail, Given, ReplayWords, hash_password, show_fields, show_text};
 use smb_serve_command::{
-    Form, KeepWords, ServeWords, SharingWords, TcpFacts, serve_share, share_folder,
+    ChangesWords, Form, KeepWords, ServeWords, SharingWords, TcpFacts, serve_share, share_folder,
 };
 use std::io::{BufWriter, ErrorKind, IsTerminal};
 use std::process::ExitCode;
@@ -141,6 +141,14 @@ fn record_of<'a>(words: &'a ArgMatches<'_>) -> Option<KeepWords<'a>> {
     })
 }
 
+/// Where a share's changes are kept, and how, where the words say that they are.
+fn changes_of<'a>(words: &'a ArgMatches<'_>) -> Option<ChangesWords<'a>> {
+    Some(ChangesWords {
+        path: words.get_str("changes")?,
+        settles: words.get_flag("sync"),
+    })
+}
+
 /// Where a share is logged, and how, where the words say that it is. With `must` it ends where a line can't be written.
 fn log_words_of<'a>(words: &'a ArgMatches<'_>, must: bool) -> Option<LogWords<'a>> {
     let level = match words.get_str("log-level") {
@@ -173,6 +181,7 @@ fn serve_words<'a>(
         unanswered_seconds: words.get_one("idle-new").unwrap_or(30),
         most_owed: words.get_one("owed").unwrap_or(1_073_741_824),
         record: record_of(words),
+        changes: changes_of(words),
         from: words.get_str("from"),
         clock: words.get_one("clock"),
         log: log_words_of(words, words.get_flag("log-must")),

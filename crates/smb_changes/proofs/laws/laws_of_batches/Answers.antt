@@ -6,6 +6,7 @@ use Rattle.smb_changes.specs.Crash.{whole_in}
 use Rattle.smb_changes.proofs.Cuts.{batches_in-cut, whole_in-few, batches_in-written, length-written}
 use Rattle.smb_changes.proofs.Damage.{rest_of-cut}
 use Rattle.smb_changes.proofs.Chain.{other_chain}
+use Rattle.smb_changes.proofs.Exact.{change_exact, batch_exact}
 use Rattle.smb_changes.proofs.laws.laws_of_batches.Goals as goal
 
 -- the files that batches leave
@@ -29,3 +30,9 @@ returns-clause-damage c = λ seed batches n count h. ap not (rest_of-cut batches
 
 pub returns-clause-chain : goal.returns-clause-chain
 returns-clause-chain c = other_chain
+
+pub returns-clause-exact_change : goal.returns-clause-exact_change
+returns-clause-exact_change c = change_exact
+
+pub returns-clause-exact : goal.returns-clause-exact
+returns-clause-exact c = batch_exact

@@ -17,9 +17,9 @@ invariant_of-self-in_err-append g c =
     let settled = g.T.Tree.content c.self.inside.settled.value in
     let bytes = g.J.JournalFile.held c.self.inside.file in
     let pending = c.note_dirty.new.pending.items in
-    let others : c.deref-2.result.now ≡ batch c.self.inside.seed c.self.inside.number pending = c.deref-2.ensures.value ∙ c.in_ok-seed.ensures.ok ∙ rw (c.new-batch.ensures.items, c.deref.ensures.value) refl in
+    let others : c.put_batch.new.out.items ≡ batch c.self.inside.seed c.self.inside.number pending = c.in_ok-seed.ensures.ok ∙ rw (c.new-batch.ensures.items, c.deref.ensures.value) refl in
     let short : length pending < 256 ^ 8 = omega (arith, c.note_dirty.new.pending.ok.0, c.note_dirty.new.pending.ok.1, c.note_dirty.new.pending.small) in
-    kept_part content settled bytes c.self.inside.torn c.self.inside.first c.self.inside.number c.self.inside.seed pending c.note_dirty.new.slots c.self.inside.entries c.self.invariant.journal (c.note_dirty.ensures.noted _ _ c.self.invariant.noted) c.in_ok-note_dirty.ensures.clean (g.J.JournalFile.held c.mend.new.file) (g.J.JournalFile.held c.append.new.file) c.deref-2.result.now c.in_ok-mend.ensures.ok others short c.append.new.torn c.in_err-append.ensures.torn c.in_err-append.ensures.err
+    kept_part content settled bytes c.self.inside.torn c.self.inside.first c.self.inside.number c.self.inside.seed pending c.note_dirty.new.slots c.self.inside.entries c.self.invariant.journal (c.note_dirty.ensures.noted _ _ c.self.invariant.noted) c.in_ok-note_dirty.ensures.clean (g.J.JournalFile.held c.mend.new.file) (g.J.JournalFile.held c.append.new.file) c.put_batch.new.out.items c.in_ok-mend.ensures.ok others short c.append.new.torn c.in_err-append.ensures.torn c.in_err-append.ensures.err
 
 pub returns-in_err-append-clause-crash : goal.returns-in_err-append-clause-crash
 returns-in_err-append-clause-crash g c =
@@ -27,9 +27,9 @@ returns-in_err-append-clause-crash g c =
     let settled = g.T.Tree.content c.self.inside.settled.value in
     let bytes = g.J.JournalFile.held c.self.inside.file in
     let pending = c.note_dirty.new.pending.items in
-    let others : c.deref-2.result.now ≡ batch c.self.inside.seed c.self.inside.number pending = c.deref-2.ensures.value ∙ c.in_ok-seed.ensures.ok ∙ rw (c.new-batch.ensures.items, c.deref.ensures.value) refl in
+    let others : c.put_batch.new.out.items ≡ batch c.self.inside.seed c.self.inside.number pending = c.in_ok-seed.ensures.ok ∙ rw (c.new-batch.ensures.items, c.deref.ensures.value) refl in
     let short : length pending < 256 ^ 8 = omega (arith, c.note_dirty.new.pending.ok.0, c.note_dirty.new.pending.ok.1, c.note_dirty.new.pending.small) in
-    rw (← c.self.view_is) (leaves_part content settled bytes c.self.inside.torn c.self.inside.first c.self.inside.number c.self.inside.seed pending c.note_dirty.new.slots c.self.inside.entries c.self.invariant.journal (c.note_dirty.ensures.noted _ _ c.self.invariant.noted) c.in_ok-note_dirty.ensures.clean (g.J.JournalFile.held c.mend.new.file) (g.J.JournalFile.held c.append.new.file) c.deref-2.result.now c.in_ok-mend.ensures.ok others short c.in_err-append.ensures.err)
+    rw (← c.self.view_is) (leaves_part content settled bytes c.self.inside.torn c.self.inside.first c.self.inside.number c.self.inside.seed pending c.note_dirty.new.slots c.self.inside.entries c.self.invariant.journal (c.note_dirty.ensures.noted _ _ c.self.invariant.noted) c.in_ok-note_dirty.ensures.clean (g.J.JournalFile.held c.mend.new.file) (g.J.JournalFile.held c.append.new.file) c.put_batch.new.out.items c.in_ok-mend.ensures.ok others short c.in_err-append.ensures.err)
 
 pub overflow_add-self : goal.overflow_add-self
 overflow_add-self g c =
@@ -37,9 +37,9 @@ overflow_add-self g c =
     let settled = g.T.Tree.content c.self.inside.settled.value in
     let bytes = g.J.JournalFile.held c.self.inside.file in
     let pending = c.note_dirty.new.pending.items in
-    let others : c.deref-2.result.now ≡ batch c.self.inside.seed c.self.inside.number pending = c.deref-2.ensures.value ∙ c.in_ok-seed.ensures.ok ∙ rw (c.new-batch.ensures.items, c.deref.ensures.value) refl in
+    let others : c.put_batch.new.out.items ≡ batch c.self.inside.seed c.self.inside.number pending = c.in_ok-seed.ensures.ok ∙ rw (c.new-batch.ensures.items, c.deref.ensures.value) refl in
     let short : length pending < 256 ^ 8 = omega (arith, c.note_dirty.new.pending.ok.0, c.note_dirty.new.pending.ok.1, c.note_dirty.new.pending.small) in
-    let fits : c.self.inside.number + 1 < 2 ^ 64 = fits_more content settled bytes c.self.inside.torn c.self.inside.first c.self.inside.number c.self.inside.seed pending c.note_dirty.new.slots c.self.inside.entries c.self.invariant.journal (c.note_dirty.ensures.noted _ _ c.self.invariant.noted) c.in_ok-note_dirty.ensures.clean (g.J.JournalFile.held c.mend.new.file) (g.J.JournalFile.held c.append.new.file) c.deref-2.result.now c.in_ok-mend.ensures.ok others short c.in_ok-append.ensures.ok (omega (arith, c.len-written.type_inv, c.len-written.ensures)) in
+    let fits : c.self.inside.number + 1 < 2 ^ 64 = fits_more content settled bytes c.self.inside.torn c.self.inside.first c.self.inside.number c.self.inside.seed pending c.note_dirty.new.slots c.self.inside.entries c.self.invariant.journal (c.note_dirty.ensures.noted _ _ c.self.invariant.noted) c.in_ok-note_dirty.ensures.clean (g.J.JournalFile.held c.mend.new.file) (g.J.JournalFile.held c.append.new.file) c.put_batch.new.out.items c.in_ok-mend.ensures.ok others short c.in_ok-append.ensures.ok (omega (arith, c.len-written.type_inv, c.len-written.ensures)) in
     omega (arith, fits)
 
 pub invariant_of-self-2 : goal.invariant_of-self-2
@@ -48,9 +48,9 @@ invariant_of-self-2 g c =
     let settled = g.T.Tree.content c.self.inside.settled.value in
     let bytes = g.J.JournalFile.held c.self.inside.file in
     let pending = c.note_dirty.new.pending.items in
-    let others : c.deref-2.result.now ≡ batch c.self.inside.seed c.self.inside.number pending = c.deref-2.ensures.value ∙ c.in_ok-seed.ensures.ok ∙ rw (c.new-batch.ensures.items, c.deref.ensures.value) refl in
+    let others : c.put_batch.new.out.items ≡ batch c.self.inside.seed c.self.inside.number pending = c.in_ok-seed.ensures.ok ∙ rw (c.new-batch.ensures.items, c.deref.ensures.value) refl in
     let short : length pending < 256 ^ 8 = omega (arith, c.note_dirty.new.pending.ok.0, c.note_dirty.new.pending.ok.1, c.note_dirty.new.pending.small) in
-    rw c.of-2.ensures (kept_more content settled bytes c.self.inside.torn c.self.inside.first c.self.inside.number c.self.inside.seed pending c.note_dirty.new.slots c.self.inside.entries c.self.invariant.journal (c.note_dirty.ensures.noted _ _ c.self.invariant.noted) c.in_ok-note_dirty.ensures.clean (g.J.JournalFile.held c.mend.new.file) (g.J.JournalFile.held c.append.new.file) c.deref-2.result.now c.in_ok-mend.ensures.ok others short c.in_ok-append.ensures.ok c.in_ok-seed.seed c.append.new.torn c.clear.new.self.items c.in_ok-append.ensures.whole (c.in_ok-seed.ensures.next ∙ ap (check c.self.inside.seed) c.deref.ensures.value) c.clear.ensures.items)
+    rw c.of-2.ensures (kept_more content settled bytes c.self.inside.torn c.self.inside.first c.self.inside.number c.self.inside.seed pending c.note_dirty.new.slots c.self.inside.entries c.self.invariant.journal (c.note_dirty.ensures.noted _ _ c.self.invariant.noted) c.in_ok-note_dirty.ensures.clean (g.J.JournalFile.held c.mend.new.file) (g.J.JournalFile.held c.append.new.file) c.put_batch.new.out.items c.in_ok-mend.ensures.ok others short c.in_ok-append.ensures.ok c.in_ok-seed.seed c.append.new.torn c.clear.new.self.items c.in_ok-append.ensures.whole (c.in_ok-seed.ensures.next ∙ ap (check c.self.inside.seed) c.deref.ensures.value) c.clear.ensures.items)
 
 pub returns-clause-crash : goal.returns-clause-crash
 returns-clause-crash g c =
@@ -58,6 +58,6 @@ returns-clause-crash g c =
     let settled = g.T.Tree.content c.self.inside.settled.value in
     let bytes = g.J.JournalFile.held c.self.inside.file in
     let pending = c.note_dirty.new.pending.items in
-    let others : c.deref-2.result.now ≡ batch c.self.inside.seed c.self.inside.number pending = c.deref-2.ensures.value ∙ c.in_ok-seed.ensures.ok ∙ rw (c.new-batch.ensures.items, c.deref.ensures.value) refl in
+    let others : c.put_batch.new.out.items ≡ batch c.self.inside.seed c.self.inside.number pending = c.in_ok-seed.ensures.ok ∙ rw (c.new-batch.ensures.items, c.deref.ensures.value) refl in
     let short : length pending < 256 ^ 8 = omega (arith, c.note_dirty.new.pending.ok.0, c.note_dirty.new.pending.ok.1, c.note_dirty.new.pending.small) in
-    rw (← c.self.view_is) (leaves_more content settled bytes c.self.inside.torn c.self.inside.first c.self.inside.number c.self.inside.seed pending c.note_dirty.new.slots c.self.inside.entries c.self.invariant.journal (c.note_dirty.ensures.noted _ _ c.self.invariant.noted) c.in_ok-note_dirty.ensures.clean (g.J.JournalFile.held c.mend.new.file) (g.J.JournalFile.held c.append.new.file) c.deref-2.result.now c.in_ok-mend.ensures.ok others short c.in_ok-append.ensures.ok)
+    rw (← c.self.view_is) (leaves_more content settled bytes c.self.inside.torn c.self.inside.first c.self.inside.number c.self.inside.seed pending c.note_dirty.new.slots c.self.inside.entries c.self.invariant.journal (c.note_dirty.ensures.noted _ _ c.self.invariant.noted) c.in_ok-note_dirty.ensures.clean (g.J.JournalFile.held c.mend.new.file) (g.J.JournalFile.held c.append.new.file) c.put_batch.new.out.items c.in_ok-mend.ensures.ok others short c.in_ok-append.ensures.ok)

@@ -1,0 +1,4 @@
+pub mod Held
+pub mod Faults
+pub mod Codes
+pub mod Views

@@ -1,0 +1,7 @@
+-- A journal's file.
+use Rattle.std.specs.Prelude.{ℕ, List, Bool}
+
+-- the bytes that were read of it and written to it, and whether all of it was read
+pub record FileState : Type 0 where
+  pub bytes : List ℕ
+  pub ended : Bool

@@ -1,0 +1,2 @@
+pub mod Unmarked
+pub mod Left
