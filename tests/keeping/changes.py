@@ -18,6 +18,8 @@ INTERNAL_INFORMATION, NUMBER_AT = 6, 72
 # How often files are read, listed, and the share asked for an ECHO.
 READS = 1_000
 DAMAGED = r'changes: {}: damaged.*\n'
+# What a small journal keeps, as its turns leave it one after the other.
+STATES = [{}, {'f': None}, *({'f': None, 'f\\a': data} for data in (b'', b'text', b'textmore'))]
 
 
 def make(program, file, *words):
@@ -64,7 +66,7 @@ def what_was_written_is_there(program):
 
 
 def one_that_is_cut_anywhere_has_whole_turns(program):
-    """Cut at any byte it keeps what the whole batches before it made, never less than before, and goes on."""
+    """Cut at any byte it keeps what some turn left, never less than where it is cut before, and goes on."""
     with tempfile.TemporaryDirectory() as folder:
         data = bytes_of(make(program, os.path.join(folder, 'kept')))
         ends, kept, wrong = batches_of(data), [], []
@@ -77,10 +79,10 @@ def one_that_is_cut_anywhere_has_whole_turns(program):
             says = f'its last batch was cut: {left} byte' in said
             if status != 0 or says != (left > 0) or bytes_of(file)[:whole] != data[:whole]:
                 wrong.append((length, status, said))
-            kept.append(len(seen(program, file)))
+            kept.append(STATES.index(seen(program, file)))
         if wrong or kept != sorted(kept):
             print(f'  {wrong[:3]}, {kept}', flush=True)
-        return not wrong and kept == sorted(kept) and kept[-1] == 2
+        return not wrong and kept == sorted(kept) and {*kept} == {*range(len(STATES))}
 
 
 def with_zeros_behind_it_goes_on(program):
