@@ -1,6 +1,6 @@
 //! The share over its connections.
 
-ghost use Rattle.std.specs.Prelude.{◌≡◌, ◌<◌, ◌+◌, ◌-◌, ◌^◌, ◌++◌, [], true, false, Some, None, OnOk, OnErr, IfOk, IfErr, IfSome, IfNone, length, map, slice_get, unwrap_or, ℕ, if◌then◌else◌};
+ghost use Rattle.std.specs.Prelude.{◌≡◌, ◌<◌, ◌+◌, ◌-◌, ◌^◌, ◌++◌, [], true, false, Some, None, OnOk, OnErr, IfOk, IfErr, IfSome, IfNone, length, map, option_and_then, slice_get, unwrap_or, ℕ, if◌then◌else◌};
 ghost use Rattle.std.specs.Bool.{OnTrue};
 ghost use Rattle.std.specs.Option.{option_map};
 ghost use Rattle.std.specs.List.{flat_map};
@@ -28,7 +28,8 @@ use smb_peers::{Answer, Event, Fate, Observer, Usage};
 use smb_reason::Reason;
 use smb_request::Server;
 use smb_session::Authenticator;
-use smb_tree::Tree;
+use smb_tree::{KeptContent, Tree};
+use smb_wire::Dialect;
 use std::alloc::Global;
 use std::collections::BTreeMap;
 use std::fmt;
@@ -107,6 +108,16 @@ impl<A: Authenticator + Drop, T: Tree + Drop, O: Opens + Drop> Share<A, T, O> {
         ensures { result ≡ is_open self.now connection }
     {
         self.streams.contains_key(&connection)
+    }
+
+    /// The dialect that a connection has agreed on. None before it has, and where it is not open.
+    pub fn dialect(&self, connection: u64) -> Option<Dialect>
+        ensures { result ≡ option_and_then (λ s. s.connection.dialect) (stream_of connection self.now.streams) }
+    {
+        match self.streams.get(&connection) {
+            Some(stream) => stream.connection.dialect,
+            None => None,
+        }
     }
 
     /// Takes a piece of a connection's stream, and puts out the replies. On a connection that is not open it is
@@ -246,8 +257,9 @@ impl<A: Authenticator + Drop, T: Tree + Drop, O: Opens + Drop> Share<A, T, O> {
     }
 
     /// Has the tree keep what changed ([`Tree::keep_changes`]). The share stays, whatever is returned.
-    pub fn keep_changes(&mut self) -> Result<(), Reason>
-        ensures { self.new ≡ self.old }
+    pub fn keep_changes(&mut self) -> Result<KeptContent<T>, Reason>
+        ensures stays { self.new ≡ self.old }
+        ensures kept { IfOk result (λ content. content ≡ self.new.server.store.tree) }
     {
         self.server.keep_changes()
     }

@@ -40,7 +40,8 @@ impl FileLocks {
         }
     }
 
-    fn len(&self) -> usize
+    // How many there are.
+    pub(crate) fn len(&self) -> usize
         ensures { result ≡ length self.now }
     {
         self.locks.len()

@@ -1,6 +1,6 @@
 //! The locks of all files.
 
-ghost use Rattle.std.specs.Prelude.{◌≡◌, ◌≢◌, [], None, Some, OnOk, OnErr, IfErr};
+ghost use Rattle.std.specs.Prelude.{◌≡◌, ◌≢◌, [], None, Some, OnOk, OnErr, IfErr, length};
 ghost use Rattle.std.specs.BTreeMap.{insert_entry, is_at};
 ghost use Rattle.std.specs.Map.{remove_entry};
 ghost use Rattle.std.specs.Ordering.{nat_cmp};
@@ -172,6 +172,16 @@ impl LockTable {
         match self.files.get(&file) {
             Some(locks) => locks.bars_write(holder, ByteRange { offset, length }),
             None => false,
+        }
+    }
+
+    /// How many locks a file has.
+    pub fn count_on(&self, file: u64) -> usize
+        ensures { result ≡ length (locks_on self.now file) }
+    {
+        match self.files.get(&file) {
+            Some(locks) => locks.len(),
+            None => 0,
         }
     }
 

@@ -19,6 +19,7 @@ use super::ways::{bound_for, deepest_with, levels_beneath};
 use super::whole_names::whole_name;
 use slab::Slab;
 use smb_pages::Pages;
+use smb_reason::Reason;
 use smb_tree::{
     Basic, Children, EntryCopy, EntryNo, EntryView, Kind, Tree, TreeFault, allocation_size,
 };
@@ -144,6 +145,8 @@ impl NodeTree {
 
 impl Tree for NodeTree {
     ghost content = { λ content. content };
+
+    ghost is_kept = { λ _. Unit {0} };
 
     fn find(&self, path: &PathView<'_>) -> Option<EntryNo> {
         let node = node_at(&self.nodes, path)?;
@@ -364,6 +367,11 @@ impl Tree for NodeTree {
             return Ok(());
         };
         self.used -= evict(&mut self.nodes, &mut self.index, other);
+        Ok(())
+    }
+
+    // It keeps nothing beside itself.
+    fn keep_changes(&mut self) -> Result<(), Reason> {
         Ok(())
     }
 }

@@ -42,7 +42,7 @@ use smb_access::{Closed, CreateAsk, Created, OpenNo, Opens, Owner, StoreFault, V
 use smb_locks::LockTable;
 use smb_reason::Reason;
 use smb_refusals::{CreateRefusal, Refusal, RefusedBy};
-use smb_tree::{EntryNo, Tree};
+use smb_tree::{EntryNo, KeptContent, Tree};
 use smb_wire::{CreateAction, CreateDisposition, NtStatus, PathView};
 use std::alloc::Global;
 use std::marker::Model;
@@ -97,10 +97,12 @@ impl<T: Tree + Drop, O: Opens + Drop> Store<T, O> {
     }
 
     /// Has the tree keep what changed ([`Tree::keep_changes`]). The store stays, whatever is returned.
-    pub fn keep_changes(&mut self) -> Result<(), Reason>
-        ensures { self.new ≡ self.old }
+    pub fn keep_changes(&mut self) -> Result<KeptContent<T>, Reason>
+        ensures stays { self.new ≡ self.old }
+        ensures kept { IfOk result (λ content. content ≡ self.new.tree) }
     {
-        self.tree.keep_changes()
+        self.tree.keep_changes()?;
+        Ok(KeptContent::of(&self.tree))
     }
 
     /// The opens.
@@ -108,6 +110,13 @@ impl<T: Tree + Drop, O: Opens + Drop> Store<T, O> {
         ensures { O.content result.now ≡ self.now.opens }
     {
         &self.opens
+    }
+
+    /// The locks.
+    pub fn locks(&self) -> &LockTable
+        ensures { result.now ≡ self.now.locks }
+    {
+        &self.locks
     }
 
     /// How many entries the tree has, its root among them. It is kept, and not counted.

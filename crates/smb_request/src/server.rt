@@ -31,7 +31,7 @@ use smb_info::Volume;
 use smb_opens::{Opens, Owner, Store};
 use smb_reason::Reason;
 use smb_session::{Authenticator, Denial, Sessions};
-use smb_tree::{Tree, Usage};
+use smb_tree::{KeptContent, Tree, Usage};
 use smb_wire::limits::Limits;
 use smb_wire::{Dialect, Units, put_u16};
 use std::alloc::{AllocError, Global};
@@ -203,6 +203,13 @@ impl<A: Authenticator + Drop, T: Tree + Drop, O: Opens + Drop> Server<A, T, O> {
         self.sessions.len()
     }
 
+    /// The sessions of all connections.
+    pub fn sessions(&self) -> &Sessions<A>
+        ensures { result.now ≡ self.now.sessions }
+    {
+        &self.sessions
+    }
+
     /// The files, their opens and locks.
     pub fn store(&self) -> &Store<T, O>
         ensures { result.now ≡ self.now.store }
@@ -211,8 +218,9 @@ impl<A: Authenticator + Drop, T: Tree + Drop, O: Opens + Drop> Server<A, T, O> {
     }
 
     /// Has the tree keep what changed ([`Tree::keep_changes`]). The server stays, whatever is returned.
-    pub fn keep_changes(&mut self) -> Result<(), Reason>
-        ensures { self.new ≡ self.old }
+    pub fn keep_changes(&mut self) -> Result<KeptContent<T>, Reason>
+        ensures stays { self.new ≡ self.old }
+        ensures kept { IfOk result (λ content. content ≡ self.new.store.tree) }
     {
         self.store.keep_changes()
     }

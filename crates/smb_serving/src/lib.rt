@@ -12,6 +12,7 @@
 //! smb_engine. What that means for the peers is a law, of `specs/ServingLaws.antt`: [`laws_of_serving`].
 #![tactic(auto)]
 
+mod kept_noted;
 mod laws;
 mod memory_peers;
 mod memory_record;
@@ -20,9 +21,11 @@ mod served_peer;
 mod served_peers;
 mod serving;
 mod taken;
+mod watcher;
 
 pub use laws::laws_of_serving;
 pub use memory_peers::{MemoryPeers, PeerStep, SendStep};
-pub use serving::{serve, serve_until, serve_until_observed};
+pub use serving::{serve, serve_until, serve_until_observed, serve_until_watched};
 pub use smb_peers::{Clock, ListClock, Observer, PeerEvent, Peers, SendFault, Stopping, Usage};
 pub use taken::taken_from;
+pub use watcher::Watcher;

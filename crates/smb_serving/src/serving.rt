@@ -11,9 +11,11 @@ ghost use Rattle.smb_serving.specs.Restless.{AreInOrder, AreKept, AreNoted, AreT
 ghost use Rattle.smb_serving.specs.Openings.{Begins, OpensIn, TurnOf};
 ghost use Rattle.smb_serving.specs.ServingLaws.{OpensEachOnce};
 
+use super::kept_noted::{KeptNoted, note_kept};
 use super::places::{find_peer, has_peer, place_behind};
 use super::served_peer::ServedPeer;
 use super::served_peers::{Part, ServedPeers};
+use super::watcher::Watcher;
 use smb_engine::Share;
 use smb_opens::Opens;
 use smb_peers::{Clock, Observer, PeerEvent, Peers, Stopping};
@@ -363,18 +365,21 @@ fn send_restless<A: Authenticator + Drop, T: Tree + Drop, O: Opens + Drop, P: Pe
     }
 }
 
-/// Each peer's part of a turn, in rising number.
+/// Each peer's part of a turn, in rising number. The peers know whether what the share has is kept.
 fn send_all<A: Authenticator + Drop, T: Tree + Drop, O: Opens + Drop, P: Peers>(
     share: &mut Share<A, T, O>,
     peers: &mut P,
     served: &mut ServedPeers,
+    noted: KeptNoted<A, T, O>,
 )
-    requires { AreTracked share.old served.old }
+    requires noted { noted.share.value ≡ share.old }
+    requires tracked { AreTracked share.old served.old }
     ensures served { Keeping (P.keeps peers.old) (P.keeps peers.new) ((moments : List ℕ) (n : ℕ) →
         AreServed served.old.peers.items (serving share.old [] (P.calls peers.old) moments n) (serving share.new served.new.peers.items (P.calls peers.new) moments n)) }
     ensures tracked { AreTracked share.new served.new }
     ensures opened { P.opened peers.new ≡ P.opened peers.old }
 {
+    let _ = noted;
     if !served.all {
         return send_restless(share, peers, served);
     }
@@ -399,8 +404,9 @@ fn turn<A: Authenticator + Drop, T: Tree + Drop, O: Opens + Drop, P: Peers, C: C
     ensures tracked { AreTracked share.new served.new }
 {
     let ran_out = take_event(share, peers, clock, served, observer);
-    peers.note_kept(share.keep_changes());
-    send_all(share, peers, served);
+    let kept = share.keep_changes();
+    let noted = note_kept(share, peers, kept);
+    send_all(share, peers, served, noted);
     ran_out
 }
 
@@ -466,12 +472,41 @@ pub fn serve_until_observed<
     ensures once { Keeping (P.keeps peers.old && C.keeps clock.old) (P.keeps peers.new && C.keeps clock.new)
         ((more : List PeerCall) → P.calls peers.new ≡ P.calls peers.old ++ more → OpensEachOnce more) }
 {
+    serve_until_watched(share, peers, clock, turns, observer, &mut ())
+}
+
+/// The same as [`serve_until_observed`], and a watcher looks at the share behind each turn.
+pub fn serve_until_watched<
+    A: Authenticator + Drop,
+    T: Tree + Drop,
+    O: Opens + Drop,
+    P: Peers + Stopping,
+    C: Clock,
+    W: Observer,
+    L: Watcher<A, T, O>,
+>(
+    share: &mut Share<A, T, O>,
+    peers: &mut P,
+    clock: &mut C,
+    turns: u64,
+    observer: &mut W,
+    watcher: &mut L,
+) -> u64
+    ensures served { Keeping (P.keeps peers.old && C.keeps clock.old) (P.keeps peers.new && C.keeps clock.new)
+        ((performed : ℕ) × (performed ≤ turns) × (performed < turns → P.stopped peers.new ≡ true)
+        × Served A.meaning performed share.old (P.calls peers.old) (C.moments clock.old) share.new (P.calls peers.new) (C.moments clock.new) result) }
+    ensures stops { Keeping (P.keeps peers.old && C.keeps clock.old) (P.keeps peers.new && C.keeps clock.new)
+        (ServedUntilStopped A.meaning P.calls P.stopped turns share.old peers.old (C.moments clock.old) share.new peers.new (C.moments clock.new) result) }
+    ensures once { Keeping (P.keeps peers.old && C.keeps clock.old) (P.keeps peers.new && C.keeps clock.new)
+        ((more : List PeerCall) → P.calls peers.new ≡ P.calls peers.old ++ more → OpensEachOnce more) }
+{
     let mut served = ServedPeers::new(share.allocator());
     let mut count = 0;
     for _turn in 0..turns {
         if turn(share, peers, clock, &mut served, observer) {
             count += 1;
         }
+        watcher.look(share);
         if peers.is_stopped() {
             return count;
         }

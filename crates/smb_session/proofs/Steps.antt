@@ -1,5 +1,5 @@
 -- What each call on the table leaves is what its definition says.
-use Rattle.std.proofs.Common.{◌≡◌, ℕ, ◌+◌, ◌-◌, ◌<◌, ◌≤◌, ◌==◌, ◌||◌, ◌&&◌, Bool, true, false, not, List, [], ◌∷◌, ◌++◌, length, map, Option, Some, None, is_some, nat_le, slice_get, refl, sym, ap, ◌∙◌, arith, length-append}
+use Rattle.std.proofs.Common.{◌≡◌, ℕ, ◌+◌, ◌-◌, ◌<◌, ◌≤◌, ◌==◌, ◌||◌, ◌&&◌, Bool, true, false, not, List, [], ◌∷◌, ◌++◌, length, map, Option, Some, None, is_some, if◌then◌else◌, nat_le, slice_get, refl, sym, ap, ◌∙◌, arith, length-append}
 use Rattle.std.proofs.lemmas.Bool.Decides.{nat_tests}
 use Rattle.std.specs.List.{AllByRecursion}
 use Rattle.std.specs.Option.{option_map_or}
@@ -36,6 +36,14 @@ module _ (index : List (ℕ × List ℕ)) (sessions : List (ℕ × SessionState)
   -- whether a connection has all its sessions
   pub full_unknown : (c : ℕ) → lookup (is_at (nat_cmp c)) index ≡ None → true ≡ has_all_sessions (table_of index sessions next) c
   full_unknown c h = rw (known_none c h) refl
+
+  -- the sessions of a connection that is not known, and of one that is
+  pub on_unknown : (c : ℕ) → lookup (is_at (nat_cmp c)) index ≡ None → [] ≡ (if contains (table_of index sessions next).connections c then numbers_on sessions c else [])
+  on_unknown c h = rw (known_none c h) refl
+
+  pub on_known : (c : ℕ) (ns : List ℕ) → IsHeld index sessions next → lookup (is_at (nat_cmp c)) index ≡ Some ns →
+      ns ≡ (if contains (table_of index sessions next).connections c then numbers_on sessions c else [])
+  on_known c ns held found = rw (known_found c ns found) (index-found (numbers_on sessions) c ns index held.indexed found)
 
   pub full_then : (c n : ℕ) (ns : List ℕ) → IsHeld index sessions next → lookup (is_at (nat_cmp c)) index ≡ Some ns → n ≡ length ns → 16 ≤ n → true ≡ has_all_sessions (table_of index sessions next) c
   full_then c n ns held found len more =

@@ -8,8 +8,8 @@ ghost use Rattle.smb_wire.specs.Units.{units_of};
 ghost use Rattle.smb_refusals.specs.Refused.{IsRefusedBy};
 ghost use Rattle.smb_session.specs.Negotiate.{best_of};
 ghost use Rattle.smb_session.specs.Parts.{has_all_trees, begun, has_all_sessions, asked_step};
-ghost use Rattle.smb_session.specs.Numbers.{without_number};
-ghost use Rattle.smb_session.specs.Table.{session_changed, session_at, connected, session_ended, knows, read_only_of, signing_of, logoff_refusal, tree_disconnect_refusal, end_connection_step};
+ghost use Rattle.smb_session.specs.Numbers.{contains, without_number};
+ghost use Rattle.smb_session.specs.Table.{numbers_on, session_changed, session_at, connected, session_ended, knows, read_only_of, signing_of, logoff_refusal, tree_disconnect_refusal, end_connection_step};
 ghost use Rattle.smb_session.specs.Setup.{setup_refusal};
 ghost use Rattle.smb_session.specs.Sessions.{new_sessions, setup_step, tree_connect_refusal, IsRefused};
 ghost use Rattle.smb_session.specs.Refusals.{setup_refusal_fault, logoff_fault, tree_connect_fault, tree_disconnect_fault};
@@ -144,6 +144,14 @@ impl<A: Authenticator + Drop> Sessions<A> {
             (session_at self.now.table session) }
     {
         self.table.user(connection, session)
+    }
+
+    /// The numbers of a connection's sessions, in rising order, those that are not finished among them; none where it is not
+    /// known.
+    pub fn of_connection(&self, connection: u64) -> &[u64]
+        ensures { result.now ≡ (if contains self.now.table.connections connection then numbers_on self.now.table.sessions connection else []) }
+    {
+        self.table.of_connection(connection)
     }
 
     /// How many sessions there are, those that are not finished among them. They are kept, and not counted.

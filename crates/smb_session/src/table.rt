@@ -1,13 +1,13 @@
 //! The table of sessions, with their trees ([MS-SMB2] 3.3.1.5).
 
-ghost use Rattle.std.specs.Prelude.{◌≡◌, ◌<◌, ◌≤◌, ◌++◌, ◌∷◌, [], true, false, Some, None, OnOk, OnErr, IfOk, is_some, length};
+ghost use Rattle.std.specs.Prelude.{◌≡◌, ◌<◌, ◌≤◌, ◌++◌, ◌∷◌, [], true, false, Some, None, OnOk, OnErr, IfOk, is_some, length, if◌then◌else◌};
 ghost use Rattle.std.specs.Option.{ForSome, option_map, option_map_or};
 ghost use Rattle.std.specs.BTreeMap.{insert_entry, is_at};
 ghost use Rattle.std.specs.Map.{lookup, remove_entry};
 ghost use Rattle.std.specs.Ordering.{nat_cmp};
-ghost use Rattle.smb_session.specs.Numbers.{without_number};
+ghost use Rattle.smb_session.specs.Numbers.{contains, without_number};
 ghost use Rattle.smb_session.specs.Parts.{fresh_session, finished_by, with_tree, without_tree, has_all_trees, begun, next_tree_of, has_all_sessions, is_of_user, known_session_refusal, accepted, tree_disconnected, tree_connected, user_on};
-ghost use Rattle.smb_session.specs.Table.{no_sessions, session_at, connected, session_ended, session_changed, changed_at, knows, read_only_of, signing_of, end_connection_step};
+ghost use Rattle.smb_session.specs.Table.{no_sessions, numbers_on, session_at, connected, session_ended, session_changed, changed_at, knows, read_only_of, signing_of, end_connection_step};
 ghost use Rattle.smb_session.specs.Setup.{setup_refusal, previous_ended};
 ghost use Rattle.smb_session.specs.Good.{GoodTable};
 ghost use Rattle.smb_session.specs.Held.{index_without, withdrawn};
@@ -319,6 +319,16 @@ impl Table {
         match self.sessions.get(&number) {
             Some(session) if session.connection() == connection => session.user(),
             _ => None,
+        }
+    }
+
+    /// The numbers of a connection's sessions, in rising order; none where it is not known.
+    pub(crate) fn of_connection(&self, connection: u64) -> &[u64]
+        ensures { result.now ≡ (if contains self.now.connections connection then numbers_on self.now.sessions connection else []) }
+    {
+        match self.index.get(&connection) {
+            Some(numbers) => numbers.as_slice(),
+            None => &[],
         }
     }
 

@@ -41,5 +41,5 @@ pub use entry_copy::EntryCopy;
 pub use fault::TreeFault;
 pub use laws::{laws_of_contents, laws_of_moves};
 pub use plain::PlainTree;
-pub use tree::{CHILDREN_AT_ONCE, Children, Tree};
+pub use tree::{CHILDREN_AT_ONCE, Children, KeptContent, Tree};
 pub use usage::Usage;

@@ -20,6 +20,7 @@ use super::stored::Stored;
 use super::texts::text_of;
 use super::tree::Tree;
 use super::whole_names::whole_name;
+use smb_reason::Reason;
 use smb_wire::limits::Limits;
 use smb_wire::{FileAttributes, FoldedName, PathView};
 use std::alloc::{AllocError, Global};
@@ -189,6 +190,8 @@ fn take_out(entries: &mut Vec<Stored>, place: usize) -> u64
 
 impl Tree for PlainTree {
     ghost content = { λ content. content };
+
+    ghost is_kept = { λ _. Unit {0} };
 
     fn find(&self, path: &PathView<'_>) -> Option<EntryNo> {
         let stored = stored_at(&self.entries, path.text())?;
@@ -386,6 +389,11 @@ impl Tree for PlainTree {
         }
         overwrite(&mut self.entries[i], offset, buffer)?;
         self.used = others + allocation_size(new_size);
+        Ok(())
+    }
+
+    // It keeps nothing beside itself.
+    fn keep_changes(&mut self) -> Result<(), Reason> {
         Ok(())
     }
 }

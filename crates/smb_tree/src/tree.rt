@@ -22,6 +22,8 @@ use smb_reason::Reason;
 use smb_wire::limits::Limits;
 use smb_wire::{FileAttributes, FoldedName, PathView};
 use std::alloc::Global;
+use std::marker::Model;
+use std::snapshot::Snapshot;
 
 /// How many children of a folder are looked up at once at most.
 pub const CHILDREN_AT_ONCE: usize = 16;
@@ -36,6 +38,8 @@ pub trait Tree {
     ghost use Rattle.smb_tree.specs.Content.{Content};
 
     ghost content: { Self → Content };
+
+    ghost is_kept: { Self → Type 0 };
 
     /// The number of the entry at a path, or None.
     fn find(&self, path: &PathView<'_>) -> Option<EntryNo>
@@ -214,11 +218,39 @@ pub trait Tree {
         ensures why { IfErr result (λ fault. fault ≢ NoMemory → write_fault (content self.old) number offset (length buffer.now) ≡ Some fault) }
         ensures memory { IfErr result (λ fault. fault ≡ NoMemory → write_fault (content self.old) number offset (length buffer.now) ≡ None) };
 
-    /// Has what changed since the last call kept, where the tree keeps its changes somewhere. The content stays, whatever is
-    /// returned; what an error left unkept is kept by the next call that returns none.
+    /// Has what changed since the last call kept, where the tree keeps its changes somewhere; what that means of a tree is
+    /// its `is_kept`. The content stays, whatever is returned; what an error left unkept is kept by the next call that
+    /// returns none.
     fn keep_changes(&mut self) -> Result<(), Reason>
-        ensures { content self.new ≡ content self.old }
+        ensures stays { content self.new ≡ content self.old }
+        ensures kept { OnOk result (is_kept self.new) };
+}
+
+/// That a tree had kept what changed of it. To clauses it is the content of which that was true. Nothing but a tree that
+/// has kept it makes one.
+#[derive(Drop)]
+pub struct KeptContent<T: Tree> {
+    tree: Snapshot<T>,
+}
+
+impl<T: Tree> Model for KeptContent<T> {
+    ghost use Rattle.smb_tree.specs.Content.{Content};
+
+    ghost Value = { Content };
+
+    ghost view = { λ kept. T.content kept.tree.value };
+
+    ghost invariant = { λ kept. T.is_kept kept.tree.value };
+}
+
+impl<T: Tree> KeptContent<T> {
+    /// The content of a tree that has kept it.
+    pub fn of(tree: &T) -> Self
+        requires { T.is_kept tree.now }
+        ensures { result ≡ T.content tree.now }
     {
-        Ok(())
+        KeptContent {
+            tree: Snapshot::of(tree),
+        }
     }
 }

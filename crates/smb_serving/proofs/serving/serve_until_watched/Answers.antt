@@ -7,8 +7,8 @@ use Rattle.smb_serving.specs.ServingLaws.{OpensEachOnce}
 use Rattle.smb_serving.specs.Openings.{TurnOf}
 use Rattle.smb_serving.proofs.Resting.{none_tracked}
 use Rattle.smb_serving.proofs.Once.{since_none, one_more, turn_by}
-use Rattle.smb_serving.proofs.serving.serve_until_observed.Goals as goal
-use Rattle.smb_serving.proofs.serving.serve_until_observed.Goals.{then-turn, else-turn}
+use Rattle.smb_serving.proofs.serving.serve_until_watched.Goals as goal
+use Rattle.smb_serving.proofs.serving.serve_until_watched.Goals.{then-turn, else-turn}
 
 pub returns-then-is_stopped-clause-served : goal.returns-then-is_stopped-clause-served
 returns-then-is_stopped-clause-served g c =

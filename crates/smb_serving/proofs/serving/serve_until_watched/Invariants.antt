@@ -4,7 +4,7 @@ use Rattle.smb_serving.specs.Serving.{Turns, TurnsUnstopped}
 use Rattle.smb_serving.specs.ServingParts.{serving}
 use Rattle.smb_serving.specs.Restless.{AreTracked}
 use Rattle.smb_serving.specs.Openings.{OpenedSince}
-use Rattle.smb_serving.proofs.serving.serve_until_observed.Given as goal
+use Rattle.smb_serving.proofs.serving.serve_until_watched.Given as goal
 
 abbrev pub invariant-loop-turn : goal.invariant-loop-turn
 invariant-loop-turn g l = record {
