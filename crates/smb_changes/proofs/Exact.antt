@@ -1,12 +1,12 @@
 -- What is read as a change or as a batch is what is written of it.
-use Rattle.std.proofs.Common.{◌≡◌, ℕ, zero, suc, ◌+◌, ◌-◌, ◌*◌, ◌%◌, ◌^◌, ◌<◌, ◌≤◌, ◌==◌, ◌&&◌, List, [], ◌∷◌, ◌++◌, length, take, drop, Option, Some, None, Bool, true, false, not, if◌then◌else◌, nat_le, refl, sym, subst, inl, inr, ◌∙◌, ap, append_assoc, arith, length-append, length-take, length-drop}
+use Rattle.std.proofs.Common.{◌≡◌, ℕ, zero, suc, ◌+◌, ◌-◌, ◌%◌, ◌^◌, ◌<◌, ◌≤◌, ◌==◌, ◌&&◌, List, [], ◌∷◌, ◌++◌, length, take, drop, Option, Some, None, Bool, true, false, not, if◌then◌else◌, nat_le, refl, sym, subst, inl, inr, ◌∙◌, ap, append_assoc, arith, length-take, length-drop}
 use Rattle.std.specs.Option.{option_map, option_and_then}
 use Rattle.std.specs.List.{AllByRecursion}
 use Rattle.std.proofs.lemmas.Bool.{leb-true, eqb-true, and_parts}
-use Rattle.std.proofs.lemmas.Bool.Decides.{eqb_tells, leb_tells}
-use Rattle.std.proofs.lemmas.List.{drop-drop, take-append-drop, get_or-drop, get_or-append_right, length-take-le}
+use Rattle.std.proofs.lemmas.Bool.Decides.{eqb_tells}
+use Rattle.std.proofs.lemmas.List.{drop-drop, take-append-drop, get_or-drop, length-take-le}
 use Rattle.std.proofs.lemmas.Slice.Eq.{bytes_eq-Decides}
-use Rattle.smb_wire.specs.Number.{IsBytes, number as number_of, spelling}
+use Rattle.smb_wire.specs.Number.{IsBytes, spelling}
 use Rattle.smb_wire.specs.Fields.{number_in}
 use Rattle.smb_wire.specs.Pairs.{units_in, unit_bytes, AreUnits}
 use Rattle.smb_wire.proofs.Numbers.{spelling_of_number, number_below}
@@ -15,7 +15,7 @@ use Rattle.smb_tree.specs.declared.entry.Kind.TheVariants.{File, Folder}
 use Rattle.smb_files.specs.Files.{Change, sets, writes, resizes, removes, counts}
 use Rattle.smb_changes.specs.Batches.{Fields, kind_code, mark_code, about_bytes, about_in, entry_of, fields_of, change_of, spelled_fields, spelled_change, spelled, change_at, changes_in, front, back, batch, size_at, body_at, has_front, has_back, batch_at}
 use Rattle.smb_changes.specs.Crash.{IsWritableAbout, IsWritableEntry, IsWritable, IsBatch}
-use Rattle.smb_changes.proofs.Cuts.{length-front, length-back, regroup}
+use Rattle.smb_changes.proofs.Cuts.{length-back, regroup}
 use Rattle.smb_changes.proofs.Reading.{each_taken}
 
 pub each_dropped : (n : ℕ) (bytes : List ℕ) → IsBytes bytes → IsBytes (drop n bytes)

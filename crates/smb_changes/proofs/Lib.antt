@@ -5,4 +5,6 @@ pub mod Kept
 pub mod Reading
 pub mod WrongBatches
 pub mod Chain
+pub mod Checks
 pub mod Exact
+pub mod Open

@@ -13,7 +13,7 @@ use Rattle.smb_changes.specs.Batches.{Fields, spelled_change, change_of, change_
 use Rattle.smb_changes.specs.Chains.{ABatchOfAnotherChainIsNotRead}
 use Rattle.smb_changes.proofs.Cuts.{batch_at-batch}
 use Rattle.smb_changes.specs.Crash.{IsWritable, IsBatch, whole_in, ACrashLeavesWholeBatches}
-use Rattle.smb_changes.specs.Exact.{OnlyAWrittenChangeIsRead, OnlyAWrittenBatchIsRead}
+use Rattle.smb_changes.specs.Exact.{OnlyAWrittenBatchIsRead}
 
 -- of every beginning of what was written, with zeros behind it or none, are recovered the changes of its whole batches
 abbrev ACrashLeavesWholeBatchesBy : (ℕ → List (List Change) → List ℕ) → (ℕ → List ℕ → Files) → (ℕ → List (List Change) → ℕ → ℕ) → Type 0
@@ -72,7 +72,7 @@ abbrev raised : List Change
 raised = counts 5 ∷ []
 
 abbrev first_seed : ℕ
-first_seed = 16435526320009258441
+first_seed = 3655475076834264325
 
 raised_fits : AllByRecursion IsBatch (raised ∷ [])
 unfolding spelling
@@ -82,7 +82,7 @@ not_raised : ◌≡◌ {A = ℕ} 5 1 → ⊥
 not_raised e = omega (arith, e)
 
 pub only_checks_are_refused : ACrashLeavesWholeBatchesBy (λ seed. written_by only_check 8 seed 1) (recovered_by only_check 8) (λ seed. whole_by only_check 8 seed 1) → ⊥
-unfolding spelling
+unfolding spelling check
 only_checks_are_refused law = not_raised (ap (λ (files : Files). files.next) (law first_seed (raised ∷ []) 56 1 raised_fits))
 
 -- a batch that was written by another seed is not read
@@ -139,7 +139,7 @@ wrong_back_bytes =
     (spelling-each 9 7)
 
 pub any_back_is_refused : OnlyAWrittenBatchIsReadBy any_back → ⊥
-unfolding spelling
+unfolding spelling check
 any_back_is_refused law =
     let e : ◌≡◌ {A = ℕ} 7 0 = ap (λ (bytes : List ℕ). get_or bytes 24 0) (law 0 1 wrong_back [] [] wrong_back_bytes refl).0 in omega (arith, e)
 

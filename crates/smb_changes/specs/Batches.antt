@@ -1,7 +1,8 @@
 -- Batches of changes as bytes, each written whole; and what is read of bytes.
-use Rattle.std.specs.Prelude.{ℕ, zero, suc, ◌+◌, ◌*◌, ◌%◌, ◌^◌, ◌++◌, List, [], ◌∷◌, length, take, drop, bit_xor, Bool, ◌&&◌, ◌==◌, ◌||◌, not, nat_le, nat_lt, if◌then◌else◌, Option, None, Some}
+use Rattle.std.specs.Prelude.{ℕ, zero, suc, ◌+◌, ◌*◌, ◌/◌, ◌%◌, ◌^◌, ◌++◌, List, [], ◌∷◌, length, take, drop, bit_xor, Bool, ◌&&◌, ◌==◌, ◌||◌, not, nat_le, nat_lt, if◌then◌else◌, Option, None, Some}
 use Rattle.std.specs.Option.{option_map, option_map_or, option_and_then}
-use Rattle.std.specs.List.{flat_map, list_all}
+use Rattle.std.specs.List.{flat_map, fold, list_all}
+use Rattle.std.specs.Simd.{first_chunks}
 use Rattle.std.specs.Str.{bytes_eq}
 use Rattle.smb_wire.specs.Number.{spelling}
 use Rattle.smb_wire.specs.Fields.{number_in}
@@ -118,10 +119,19 @@ changes_in (suc most) (byte ∷ bytes) = option_and_then
     (λ (found : Change × List ℕ). option_map (λ changes. found.0 ∷ changes) (changes_in most found.1))
     (change_at (byte ∷ bytes))
 
--- the check of bytes: FNV-1a of 64 bits, begun with a seed
-abbrev pub check : ℕ → List ℕ → ℕ
-check seed [] = seed
-check seed (byte ∷ bytes) = check ((bit_xor seed byte * 1099511628211) % 2 ^ 64) bytes
+-- a piece of at most 32 bytes is stirred into a sum. It is four numbers of 8 bytes each, where what a short piece lacks
+-- is 0. All factors are odd, and the halves of the product are exchanged; so the new sum is one-to-one in the old one,
+-- and in each of the four numbers: damage within one of them is always found
+abbrev pub stirred : ℕ → List ℕ → ℕ
+stirred sum piece =
+    let others = number_in 8 8 piece * 14029467366897019727 + number_in 8 16 piece * 1609587929392839161
+    + number_in 8 24 piece * 9650029242287828579 in
+    let product = (bit_xor sum (number_in 8 0 piece) + others) * 11400714785074694791 % 2 ^ 64 in
+    product / 2 ^ 32 + product % 2 ^ 32 * 2 ^ 32
+
+-- the check of bytes: into a seed they are stirred, 32 bytes after 32, and the fewer that are left last
+unfoldable pub check : ℕ → List ℕ → ℕ
+check seed bytes = fold stirred seed (first_chunks 32 ((length bytes + 31) / 32) bytes)
 
 -- the front of a batch, 24 bytes: the length of its changes, its number and the check of these, in 8 each
 abbrev pub front : ℕ → ℕ → ℕ → List ℕ

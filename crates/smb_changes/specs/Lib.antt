@@ -3,3 +3,4 @@ pub mod Crash
 pub mod Shown
 pub mod Chains
 pub mod Exact
+pub mod Open

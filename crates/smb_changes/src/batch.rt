@@ -1,45 +1,36 @@
 //! A batch, and its bytes.
 
-ghost use Rattle.std.specs.Prelude.{◌≡◌, ◌++◌, OnOk, OnErr, IfOk, length, take};
-ghost use Rattle.smb_changes.specs.Batches.{check, front, back, batch};
+ghost use Rattle.std.specs.Prelude.{◌≡◌, ◌++◌, ◌∷◌, [], OnOk, OnErr, IfOk, length, take};
+ghost use Rattle.smb_wire.specs.Number.{spelling};
+ghost use Rattle.smb_changes.specs.Batches.{check, front, batch};
 
-use super::change::put_byte;
-use smb_wire::{WireFault, put_bytes, put_u64};
+use super::check::check_of;
+use smb_wire::{WireFault, in_eight, put_bytes};
 
-/// The check of bytes: FNV-1a of 64 bits, begun with a seed.
-pub fn check_of(seed: u64, bytes: &[u8]) -> u64
-    ensures { result ≡ check seed bytes.now }
+/// The front of a batch whose changes have `size` bytes.
+pub(crate) fn front_of(seed: u64, number: u64, size: u64) -> [u8; 24]
+    ensures { result ≡ front seed number size }
 {
-    let mut sum = seed;
-    for byte in bytes {
-        sum = (sum ^ *byte as u64).wrapping_mul(1_099_511_628_211);
-    }
-    sum
+    let mut fields = [0; 16];
+    let (first, second) = fields.split_at_mut(8);
+    first.copy_from_slice(&in_eight(size));
+    second.copy_from_slice(&in_eight(number));
+    let check = check_of(seed, &fields);
+    let mut front = [0; 24];
+    let (place, last) = front.split_at_mut(16);
+    place.copy_from_slice(&fields);
+    last.copy_from_slice(&in_eight(check));
+    front
 }
 
-// Adds the front of a batch. After an error the bytes that were there are there.
-fn put_front(out: &mut Vec<u8>, seed: u64, number: u64, size: u64) -> Result<(), WireFault>
-    ensures ok { OnOk result (out.new.items ≡ out.old.items ++ front seed number size) }
-    ensures err { OnErr result (take (length out.old.items) out.new.items ≡ out.old.items) }
+/// The back of a batch whose changes have this check.
+pub(crate) fn back_of(check: u64) -> [u8; 9]
+    ensures { result ≡ spelling 8 check ++ 10 ∷ [] }
 {
-    let begin = out.len();
-    put_u64(out, size)?;
-    put_u64(out, number)?;
-    let check = check_of(seed, &out[begin..]);
-    put_u64(out, check)?;
-    Ok(())
-}
-
-// Adds the back of a batch, and gives its check. After an error the bytes that were there are there.
-fn put_back(out: &mut Vec<u8>, seed: u64, body: &[u8]) -> Result<u64, WireFault>
-    ensures ok { OnOk result (out.new.items ≡ out.old.items ++ back seed body.now) }
-    ensures check { IfOk result (λ next. next ≡ check seed body.now) }
-    ensures err { OnErr result (take (length out.old.items) out.new.items ≡ out.old.items) }
-{
-    let check = check_of(seed, body);
-    put_u64(out, check)?;
-    put_byte(out, 10)?;
-    Ok(check)
+    let mut back = [10; 9];
+    let (place, _) = back.split_at_mut(8);
+    place.copy_from_slice(&in_eight(check));
+    back
 }
 
 // Adds a batch, and gives the seed of the next. After an error the bytes that were there are there.
@@ -49,12 +40,11 @@ fn put_parts(out: &mut Vec<u8>, seed: u64, number: u64, body: &[u8]) -> Result<u
     ensures next { IfOk result (λ next. next ≡ check seed body.now) }
     ensures err { OnErr result (take (length out.old.items) out.new.items ≡ out.old.items) }
 {
-    put_front(out, seed, number, body.len() as u64)?;
+    put_bytes(out, &front_of(seed, number, body.len() as u64))?;
     put_bytes(out, body)?;
-    match put_back(out, seed, body) {
-        Ok(next) => Ok(next),
-        Err(fault) => Err(fault),
-    }
+    let next = check_of(seed, body);
+    put_bytes(out, &back_of(next))?;
+    Ok(next)
 }
 
 /// Adds a batch of changes that are spelled, and gives the seed of the batch behind it (`next`).

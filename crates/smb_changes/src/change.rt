@@ -62,8 +62,8 @@ fn mark_code(mark: bool) -> u8
     if mark { 1 } else { 0 }
 }
 
-/// Adds a byte. [`WireFault::NoMemory`] leaves `out` as it was.
-pub fn put_byte(out: &mut Vec<u8>, byte: u8) -> Result<(), WireFault>
+// Adds a byte. An error leaves `out` as it was.
+fn put_byte(out: &mut Vec<u8>, byte: u8) -> Result<(), WireFault>
     ensures ok { OnOk result (out.new.items ≡ out.old.items ++ byte ∷ []) }
     ensures err { OnErr result (out.new.items ≡ out.old.items) }
 {

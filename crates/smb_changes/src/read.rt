@@ -8,8 +8,8 @@ ghost use Rattle.smb_wire.specs.Number.{spelling};
 ghost use Rattle.smb_changes.specs.Batches.{about_in, entry_of, change_of, change_at, changes_in, size_at, body_at, has_front, batch_at, seed_behind};
 ghost use Rattle.smb_changes.specs.Shown.{change_shown};
 
-use super::batch::check_of;
 use super::change::Change;
+use super::check::check_of;
 use smb_tree::{Basic, EntryNo, Kind};
 use smb_wire::{FileAttributes, Units, in_eight, u32_in, u64_in};
 

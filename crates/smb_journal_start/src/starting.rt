@@ -13,7 +13,7 @@ ghost use Rattle.smb_journal_start.specs.Unmarked.{HasUnmarked};
 ghost use Rattle.smb_journal_start.specs.Left.{IsLeft};
 
 use super::fault::StartFault;
-use super::marks::{is_none_marked, remove_all_marked};
+use super::left::end_marked;
 use smb_held_files::HeldFiles;
 use smb_journal_file::DiskFile;
 use smb_journaled_tree::{Chain, JournalFile, JournaledTree};
@@ -23,6 +23,16 @@ use smb_tree::EntryNo;
 use smb_tree_of_files::{numbers_of, tree_of};
 use smb_wire::limits::Limits;
 use std::alloc::Global;
+
+/// The most entries that a share can have, the most bytes of a file, and the most of all files.
+const GREATEST_ENTRIES: usize = 4_294_967_295;
+
+const GREATEST_FILE_BYTES: u64 = 8_796_093_022_208;
+
+const GREATEST_CAPACITY: u64 = 70_368_744_177_664;
+
+/// The moment of a root that nobody made, in units of 100 ns since 1601: the beginning of 1970.
+const NEW_ROOT: u64 = 116_444_736_000_000_000;
 
 /// A tree whose changes are kept in a file.
 pub type KeptTree = JournaledTree<NodeTree, DiskFile>;
@@ -35,6 +45,21 @@ pub struct Space {
     pub capacity: u64,
     /// The moment of a new root, in units of 100 ns since 1601.
     pub created: u64,
+}
+
+impl Space {
+    /// As much as any share can have, for files that no share goes on with.
+    pub fn greatest() -> Space {
+        let mut limits = Limits::profile();
+        let _ = limits.set_entries(GREATEST_ENTRIES);
+        let _ = limits.set_file_bytes(GREATEST_FILE_BYTES);
+        let _ = limits.set_capacity(GREATEST_CAPACITY);
+        Space {
+            limits,
+            capacity: limits.capacity,
+            created: NEW_ROOT,
+        }
+    }
 }
 
 // A new tree, in a file that has nothing.
@@ -79,8 +104,8 @@ fn go_on(
     }
 }
 
-// Removes what is marked, as the end of its last open would have done, and keeps that.
-fn end_marked(tree: &mut KeptTree, numbers: &[EntryNo]) -> Result<(), StartFault>
+// Removes what is marked, and keeps that.
+fn keep_unmarked(tree: &mut KeptTree, numbers: &[EntryNo]) -> Result<(), StartFault>
     requires good { GoodContent tree.old.content }
     requires lawful { AllByRecursion IsLawfulRow tree.old.content.rows }
     requires numbers { HasAll (files_of tree.old.content) numbers.now }
@@ -89,9 +114,9 @@ fn end_marked(tree: &mut KeptTree, numbers: &[EntryNo]) -> Result<(), StartFault
     ensures limits { OnOk result (tree.new.content.limits ≡ tree.old.content.limits) }
     ensures capacity { OnOk result (tree.new.content.capacity ≡ tree.old.content.capacity) }
 {
-    remove_all_marked(tree, numbers);
-    if !is_none_marked(tree, numbers) {
-        return Err(StartFault::Marked);
+    match end_marked(tree, numbers) {
+        Ok(()) => {}
+        Err(fault) => return Err(fault),
     }
     match tree.settle() {
         Ok(()) => Ok(()),
@@ -123,7 +148,7 @@ fn go_on_unmarked(
         Ok(tree) => tree,
         Err(fault) => return Err(fault),
     };
-    match end_marked(&mut tree, &numbers) {
+    match keep_unmarked(&mut tree, &numbers) {
         Ok(()) => Ok(tree),
         Err(fault) => Err(fault),
     }

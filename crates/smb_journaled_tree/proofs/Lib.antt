@@ -6,3 +6,4 @@ pub mod Moving
 pub mod Settling
 pub mod Settled
 pub mod Beginning
+pub mod Noting

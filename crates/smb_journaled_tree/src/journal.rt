@@ -8,7 +8,7 @@ use super::file::{JournalFault, JournalFile};
 use super::notes::{begin_file, note_dirty};
 use super::slots::{Slots, slots_of};
 use super::torn::{append, mend};
-use smb_changes::{Change, put_batch, put_change};
+use smb_changes::{Change, OpenBatch};
 use smb_reason::Reason;
 use smb_tree::{Basic, Children, EntryCopy, EntryNo, EntryView, Kind, Tree, TreeFault};
 use smb_wire::limits::Limits;
@@ -32,10 +32,9 @@ pub struct Chain {
 /// A call costs what it costs there; besides, [`add`](Tree::add), [`write`](Tree::write) and
 /// [`set_size`](Tree::set_size) look up what they change once more and note it, a write with a copy of its bytes, and the
 /// others find one slot, or two, in logarithmic time. [`settle`](JournaledTree::settle) goes through the entries that are
-/// dirty, and copies what is noted once.
+/// dirty, and hands what is noted to the file without a further copy.
 #[derive(Drop)]
 pub struct JournaledTree<T: Tree + Drop, J: JournalFile + Drop> {
-    alloc: Global,
     tree: T,
     file: J,
     // How many bytes of the file are whole batches, where some of another one are behind these.
@@ -45,7 +44,7 @@ pub struct JournaledTree<T: Tree + Drop, J: JournalFile + Drop> {
     number: u64,
     seed: u64,
     // The changes that are noted since the last batch.
-    pending: Vec<u8>,
+    pending: OpenBatch,
     slots: Slots,
     // How many entries there are, the root among them.
     entries: usize,
@@ -54,6 +53,7 @@ pub struct JournaledTree<T: Tree + Drop, J: JournalFile + Drop> {
 }
 
 impl<T: Tree + Drop, J: JournalFile + Drop> Model for JournaledTree<T, J> {
+    ghost use Rattle.smb_changes.specs.Open.{changes_in_batch};
     ghost use Rattle.smb_journaled_tree.specs.Journal.{JournalState};
     ghost use Rattle.smb_journaled_tree.specs.Kept.{whole_size, IsKept};
 
@@ -61,7 +61,7 @@ impl<T: Tree + Drop, J: JournalFile + Drop> Model for JournaledTree<T, J> {
 
     ghost view = { λ j. record { content = T.content j.tree; settled = T.content j.settled.value; seed = j.first; whole = whole_size j.torn (J.held j.file); bytes = J.held j.file } };
 
-    ghost invariant = { λ j. IsKept (T.content j.tree) (T.content j.settled.value) (J.held j.file) j.torn j.first j.number j.seed j.pending.items j.slots j.entries };
+    ghost invariant = { λ j. IsKept (T.content j.tree) (T.content j.settled.value) (J.held j.file) j.torn j.first j.number j.seed (changes_in_batch j.pending) j.slots j.entries };
 }
 
 impl<T: Tree + Drop, J: JournalFile + Drop> JournaledTree<T, J> {
@@ -97,14 +97,13 @@ impl<T: Tree + Drop, J: JournalFile + Drop> JournaledTree<T, J> {
         let slots = slots_of(alloc, numbers)?;
         let settled = Snapshot::of(&tree);
         Ok(JournaledTree {
-            alloc,
             tree,
             file,
             torn: None,
             first: chain.first,
             number: chain.number,
             seed: chain.seed,
-            pending: Vec::new(alloc),
+            pending: OpenBatch::new(alloc),
             slots,
             entries,
             settled,
@@ -153,10 +152,22 @@ impl<T: Tree + Drop, J: JournalFile + Drop> JournaledTree<T, J> {
             self.settled = Snapshot::of(&self.tree);
             return Ok(());
         }
-        let mut batch = Vec::new(self.alloc);
-        let seed = put_batch(&mut batch, self.seed, self.number, &self.pending)?;
-        mend(&mut self.file, &mut self.torn)?;
-        append(&mut self.file, &mut self.torn, &batch)?;
+        let length = self.pending.len();
+        let seed = self.pending.close(self.seed, self.number)?;
+        match mend(&mut self.file, &mut self.torn) {
+            Ok(()) => {}
+            Err(fault) => {
+                self.pending.truncate(length);
+                return Err(fault);
+            }
+        }
+        match append(&mut self.file, &mut self.torn, self.pending.as_vec()) {
+            Ok(()) => {}
+            Err(fault) => {
+                self.pending.truncate(length);
+                return Err(fault);
+            }
+        }
         // For the proof alone: the number does not pass its type, since each batch has bytes.
         let _written = self.file.len();
         self.pending.clear();
@@ -183,6 +194,8 @@ impl<T: Tree + Drop, J: JournalFile + Drop> JournaledTree<T, J> {
 
 impl<T: Tree + Drop, J: JournalFile + Drop> Tree for JournaledTree<T, J> {
     ghost content = { λ j. j.content };
+
+    ghost is_kept = { λ j. j.settled ≡ j.content };
 
     fn find(&self, path: &PathView<'_>) -> Option<EntryNo> {
         self.tree.find(path)
@@ -248,7 +261,7 @@ impl<T: Tree + Drop, J: JournalFile + Drop> Tree for JournaledTree<T, J> {
             offset,
             bytes: buffer,
         };
-        match put_change(&mut self.pending, change) {
+        match self.pending.note(change) {
             Ok(()) => {}
             Err(_) => return Err(TreeFault::NoMemory),
         }
@@ -286,7 +299,7 @@ impl<T: Tree + Drop, J: JournalFile + Drop> Tree for JournaledTree<T, J> {
             Ok(()) => {}
             Err(_) => return Err(TreeFault::NoMemory),
         }
-        match put_change(&mut self.pending, change) {
+        match self.pending.note(change) {
             Ok(()) => {}
             Err(_) => return Err(TreeFault::NoMemory),
         }
@@ -307,7 +320,7 @@ impl<T: Tree + Drop, J: JournalFile + Drop> Tree for JournaledTree<T, J> {
             return Err(fault);
         }
         let count = self.pending.len();
-        match put_change(&mut self.pending, Change::Size { number, size }) {
+        match self.pending.note(Change::Size { number, size }) {
             Ok(()) => {}
             Err(_) => return Err(TreeFault::NoMemory),
         }

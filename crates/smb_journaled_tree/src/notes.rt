@@ -4,6 +4,7 @@ ghost use Rattle.std.specs.Prelude.{◌≡◌, ◌++◌, ◌∷◌, [], None, �
 ghost use Rattle.smb_tree.specs.Content.{Content, numbered};
 ghost use Rattle.smb_files.specs.Laws.{entry_change};
 ghost use Rattle.smb_changes.specs.Batches.{spelled_change};
+ghost use Rattle.smb_changes.specs.Open.{changes_in_batch};
 ghost use Rattle.smb_changes.specs.Shown.{change_shown};
 ghost use Rattle.std.specs.Option.{option_map};
 ghost use Rattle.smb_tree.specs.Views.{shown};
@@ -14,7 +15,7 @@ ghost use Rattle.smb_journaled_tree.specs.Kept.{IsNoted, change_seen};
 
 use super::file::{JournalFault, JournalFile};
 use super::slots::Slots;
-use smb_changes::{Change, put_batch, put_change};
+use smb_changes::{Change, OpenBatch};
 use smb_tree::{EntryNo, EntryView, Tree};
 use smb_wire::WireFault;
 use std::alloc::Global;
@@ -37,15 +38,19 @@ fn change_of<'a>(number: EntryNo, view: Option<EntryView<'a>>) -> Change<'a>
 }
 
 // Notes an entry as it is, and returns whether it is there.
-fn note_entry<T: Tree>(tree: &T, pending: &mut Vec<u8>, number: EntryNo) -> Result<bool, WireFault>
-    ensures ok { OnOk result (pending.new.items ≡ pending.old.items ++ spelled_change (entry_change (T.content tree.now) number)) }
+fn note_entry<T: Tree>(
+    tree: &T,
+    pending: &mut OpenBatch,
+    number: EntryNo,
+) -> Result<bool, WireFault>
+    ensures ok { OnOk result (changes_in_batch pending.new ≡ changes_in_batch pending.old ++ spelled_change (entry_change (T.content tree.now) number)) }
     ensures writable { OnOk result (IsWritable (entry_change (T.content tree.now) number)) }
     ensures there { IfOk result (λ there. there ≡ is_some (numbered (T.content tree.now).rows number)) }
-    ensures err { OnErr result (pending.new.items ≡ pending.old.items) }
+    ensures err { OnErr result (changes_in_batch pending.new ≡ changes_in_batch pending.old) }
 {
     let view = tree.entry(number);
     let there = view.is_some();
-    put_change(pending, change_of(number, view))?;
+    pending.note(change_of(number, view))?;
     Ok(there)
 }
 
@@ -53,10 +58,10 @@ fn note_entry<T: Tree>(tree: &T, pending: &mut Vec<u8>, number: EntryNo) -> Resu
 pub fn note_dirty<T: Tree>(
     tree: &T,
     slots: &mut Slots,
-    pending: &mut Vec<u8>,
+    pending: &mut OpenBatch,
 ) -> Result<(), WireFault>
     requires { (dirty : List ℕ) × AreDirty slots.old dirty }
-    ensures noted { (settled : Content) (entries : ℕ) → IsNoted (T.content tree.now) settled pending.old.items slots.old entries → IsNoted (T.content tree.now) settled pending.new.items slots.new entries }
+    ensures noted { (settled : Content) (entries : ℕ) → IsNoted (T.content tree.now) settled (changes_in_batch pending.old) slots.old entries → IsNoted (T.content tree.now) settled (changes_in_batch pending.new) slots.new entries }
     ensures clean { OnOk result (slots.new.first ≡ None) }
 {
     while let Some(number) = slots.first {
@@ -77,10 +82,9 @@ pub fn begin_file<T: Tree, J: JournalFile>(
     requires empty { J.held file.old ≡ [] }
     ensures { IfOk result (λ next. IsWritten (T.content tree.now) (J.held file.new) seed 2 next) }
 {
-    let mut pending = Vec::new(alloc);
+    let mut pending = OpenBatch::new(alloc);
     note_entry(tree, &mut pending, 1)?;
-    let mut batch = Vec::new(alloc);
-    let next = put_batch(&mut batch, seed, 1, &pending)?;
-    file.append(&batch)?;
+    let next = pending.close(seed, 1)?;
+    file.append(pending.as_vec())?;
     Ok(next)
 }

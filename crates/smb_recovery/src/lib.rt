@@ -11,8 +11,6 @@ mod fault;
 mod reading;
 mod rest;
 mod source;
-#[cfg(test)]
-mod tests;
 
 pub use fault::RecoveryFault;
 pub use reading::{Recovered, recover};

@@ -21,6 +21,3 @@ mod steps;
 pub use build::tree_of;
 pub use fault::BuildFault;
 pub use numbers::numbers_of;
-
-#[cfg(test)]
-mod tests;

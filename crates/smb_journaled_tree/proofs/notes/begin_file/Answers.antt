@@ -1,13 +1,18 @@
-use Rattle.std.proofs.Common.{◌<◌, ◌^◌, length, refl, ◌∙◌, ap, arith}
-use Rattle.smb_changes.specs.Batches.{check}
+use Rattle.std.proofs.Common.{ℕ, List, ◌<◌, ◌^◌, ◌++◌, length, ap, ◌∙◌, arith, length-drop}
+use Rattle.smb_files.specs.Laws.{entry_change}
+use Rattle.smb_changes.specs.Batches.{spelled_change}
+use Rattle.smb_changes.specs.Open.{changes_in_batch}
 use Rattle.smb_journaled_tree.proofs.Beginning.{root_written}
 use Rattle.smb_journaled_tree.proofs.notes.begin_file.Goals as goal
 
 pub returns : goal.returns
 returns g c =
-    let pending = c.note_entry.new.pending.items in
-    let short : length pending < 256 ^ 8 = omega (arith, c.note_entry.new.pending.ok.0, c.note_entry.new.pending.ok.1, c.note_entry.new.pending.small) in
-    root_written (g.T.Tree.content c.args.tree.now) pending (g.J.JournalFile.held c.append.new.self) c.args.seed c.in_ok-next.next c.requires.new
-    c.in_ok-note_entry.ensures.writable (c.in_ok-note_entry.ensures.ok ∙ rw c.new-pending.ensures.items refl) short
-    (c.in_ok-append.ensures.ok ∙ rw c.requires.empty (c.in_ok-next.ensures.ok ∙ rw (c.new-batch.ensures.items, c.deref.ensures.value) refl))
-    (c.in_ok-next.ensures.next ∙ ap (check c.args.seed) c.deref.ensures.value)
+    let content = g.T.Tree.content c.args.tree.now in
+    let noted = c.note_entry.new.pending.bytes in
+    let pending = changes_in_batch c.note_entry.new.pending in
+    let short : length pending < 256 ^ 8 = omega (arith, noted.ok.0, noted.ok.1, noted.small, length-drop 24 noted.items) in
+    root_written content pending (g.J.JournalFile.held c.append.new.self) c.args.seed c.in_ok-next.next c.requires.new
+    c.in_ok-note_entry.ensures.writable
+    (c.in_ok-note_entry.ensures.ok ∙ ap (λ (l : List ℕ). l ++ spelled_change (entry_change content 1)) c.new-pending.ensures) short
+    (c.in_ok-append.ensures.ok ∙ rw (c.requires.empty, c.as_vec.ensures) c.in_ok-next.ensures.ok)
+    c.in_ok-next.ensures.next

@@ -1,4 +1,5 @@
 use Rattle.smb_journaled_tree.proofs.Keeping.{dirty_left, keeps_first, first_dirty}
+use Rattle.smb_journaled_tree.proofs.Noting.{noted_as}
 use Rattle.smb_journaled_tree.proofs.notes.note_dirty.Goals as goal
 
 pub loop-slots-smaller : goal.loop-slots-smaller
@@ -15,3 +16,8 @@ loop-slots-preserved g c = (
       c.in_ok-there.ensures.there c.in_ok-there.ensures.writable c.in_ok-there.ensures.ok
       (c.loop-slots.invariant.1 settled entries k),
 )
+
+pub returns-in_err-there-clause-noted : goal.returns-in_err-there-clause-noted
+returns-in_err-there-clause-noted g c = λ settled entries k.
+    noted_as (g.T.Tree.content c.args.tree.now) settled _ _ c.loop-slots.slots entries c.in_err-there.ensures.err
+    (c.loop-slots.invariant.1 settled entries k)

@@ -11,5 +11,5 @@ invariant_of-result g c = rw c.of-settled.ensures (record {
     left = keeps_whole (g.T.Tree.content c.args.tree) (g.J.JournalFile.held c.args.file) c.args.chain.first c.args.chain.number c.args.chain.seed c.requires.written;
   };
   noted = keeps_settled (g.T.Tree.content c.args.tree) _ _ _ c.requires.good c.requires.counted
-      (λ q row h. c.in_ok-slots.ensures.all q (c.requires.all q row h)) c.in_ok-slots.ensures.clean c.new.ensures.items;
+      (λ q row h. c.in_ok-slots.ensures.all q (c.requires.all q row h)) c.in_ok-slots.ensures.clean c.new.ensures;
 })

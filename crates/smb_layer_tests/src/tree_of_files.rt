@@ -1,10 +1,10 @@
 //! Trees from files that were set by hand.
 
-use super::{BuildFault, tree_of};
 use smb_changes::Change;
 use smb_held_files::HeldFiles;
 use smb_nodes::NodeTree;
 use smb_tree::{Basic, EntryNo, Kind, Tree};
+use smb_tree_of_files::{BuildFault, tree_of};
 use smb_wire::limits::Limits;
 use smb_wire::{FileAttributes, Units, split_path};
 use std::alloc::Global;

@@ -1,7 +1,7 @@
 //! Journals that are whole, that are cut, and that are damaged.
 
-use crate::{MemorySource, RecoveryFault, recover};
 use smb_changes::{Change, put_batch, put_change};
+use smb_recovery::{MemorySource, RecoveryFault, recover};
 use std::alloc::Global;
 
 /// Adds a batch of 58 bytes, by which the next number is no less than this, and gives the seed of the batch behind it.
