@@ -1,10 +1,10 @@
-"""What a share keeps in a file: nothing acknowledged is lost where the program is killed, a recording says what was
-answered, and what is done with one that is cut, changed, of another share or full; and folders."""
-from tests.keeping import anew, changes, damaged, folders, killing, named, recordings, refused
+"""What a share keeps in a file: nothing acknowledged is lost where the program is killed, a record says what was
+answered, and what is done with a file that is cut, changed, of another kind or full; and folders."""
+from tests.keeping import compacted, damaged, folders, journal, killing, named, recordings, refused
 
 SEED, KILLS = 20_261_126, 20
-PARTS = {'recordings': recordings.TESTS, 'damaged': damaged.TESTS, 'named': named.TESTS, 'many': named.TESTS_OF_MANY,
-         'folders': folders.TESTS, 'anew': anew.TESTS, 'refused': refused.TESTS, 'changes': changes.TESTS}
+PARTS = {'journal': journal.TESTS, 'recordings': recordings.TESTS, 'damaged': damaged.TESTS, 'named': named.TESTS,
+         'many': named.TESTS_OF_MANY, 'folders': folders.TESTS, 'compacted': compacted.TESTS, 'refused': refused.TESTS}
 
 
 def add_words(reader):
@@ -17,8 +17,7 @@ def tests(words):
     """With an unproved program fewer places are tried, a journal is kept over fewer kills, no share of many files is
     taken out, and no allocation is refused: it is slow, and has checks before them."""
     program, wanted = words.program, words.part or ('killed', *PARTS)
-    kills = [(test, program, words.kills, words.seed or SEED) for test in (
-        killing.nothing_acknowledged_is_lost_behind_kills, killing.no_acknowledged_change_is_lost_behind_kills)]
-    return kills * ('killed' in wanted) + [
+    kills = (killing.nothing_acknowledged_is_lost_behind_kills, program, words.kills, words.seed or SEED)
+    return [kills] * ('killed' in wanted) + [
         (test, program) for part, tests in PARTS.items() if part in wanted
         and not (part in ('many', 'refused') and program.is_unproved) for test in tests]

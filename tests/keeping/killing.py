@@ -185,8 +185,7 @@ def difference(found, outcomes):
 
 
 class Marking(Keeping):
-    """The same of a journal of changes: where the server is killed, a file goes that is marked, and not one that its open was to
-    delete."""
+    """The same where the server is killed: then a file goes that is marked, and not one that its open was to delete."""
     mark = next_mark = False
 
     def may_be_left(self):
@@ -218,9 +217,8 @@ class Marking(Keeping):
 class Journal:
     """A journal that servers are killed on, and what may be there of each client's files."""
 
-    def __init__(self, program, folder, seed, form='--journal', worker=Keeping):
+    def __init__(self, program, folder, seed):
         self.program, self.folder, self.seed, self.chance = program, folder, seed, random.Random(seed)
-        self.form, self.worker = form, worker
         self.file, self.answered = os.path.join(folder, 'journal'), 0
         self.may_be_left, self.under_way, self.happened = [[{}]] * CLIENTS, 0, 0
 
@@ -240,8 +238,8 @@ class Journal:
         return seen
 
     def is_killed_at_its_begin(self):
-        """A server that is killed, perhaps before it has performed the journal."""
-        process = begins_to_keep(self.program, self.file, form=self.form)
+        """A server that is killed, perhaps before it has read the journal."""
+        process = begins_to_keep(self.program, self.file)
         time.sleep(self.chance.uniform(0, 0.2))
         process.kill()
         process.wait()
@@ -252,9 +250,9 @@ class Journal:
             self.is_killed_at_its_begin()
         words = ['--sync'] if number % SETTLED == SETTLED - 1 else []
         wrong = []
-        with keeping(self.program, self.form, self.file, *words) as share:
+        with keeping(self.program, '--journal', self.file, *words) as share:
             self.compare(share)
-            clients = [self.worker(share, i, f'{self.seed}/{number}', self.may_be_left[i][0]) for i in range(CLIENTS)]
+            clients = [Marking(share, i, f'{self.seed}/{number}', self.may_be_left[i][0]) for i in range(CLIENTS)]
             threads = [threading.Thread(target=client.works_on, args=(wrong,)) for client in clients]
             for thread in threads:
                 thread.start()
@@ -268,20 +266,18 @@ class Journal:
         self.may_be_left = [client.may_be_left() for client in clients]
 
     def is_extracted(self):
-        """Whether an extraction gives what a client sees behind the last restart; of a journal of changes there is none yet."""
-        with keeping(self.program, self.form, self.file) as share:
+        """Whether an extraction gives what a client sees behind the last restart."""
+        with keeping(self.program, '--journal', self.file) as share:
             seen = self.compare(share)
             killed(share)
-        if self.form == '--changes':
-            return True
         folder = os.path.join(self.folder, 'extracted')
         return extracted(self.program, self.file, folder) == (0, '') and tree_of(folder) == seen
 
 
-def is_kept_over(program, rounds, seed, *kind):
+def is_kept_over(program, rounds, seed):
     """Whether nothing is lost that was acknowledged, and nothing is there that was refused, over so many rounds."""
     with tempfile.TemporaryDirectory() as folder:
-        journal = Journal(program, folder, seed, *kind)
+        journal = Journal(program, folder, seed)
         for number in range(rounds):
             try:
                 journal.round(number)
@@ -289,17 +285,12 @@ def is_kept_over(program, rounds, seed, *kind):
                 raise Wrong(f'seed {seed}, round {number}: {error!r}') from error
         if not journal.is_extracted():
             raise Wrong(f'seed {seed}: what is extracted is not what a client sees')
-        print(f'  {journal.form[2:]}, seed {seed}: {rounds} kills, {journal.answered:,} answers, {os.path.getsize(journal.file):,} bytes; '
+        print(f'  seed {seed}: {rounds} kills, {journal.answered:,} answers, {os.path.getsize(journal.file):,} bytes; '
               f'of {journal.under_way} changes under way {journal.happened} had happened', flush=True)
         return True
 
 
-def nothing_acknowledged_is_lost_behind_kills(program, kills, seed, *kind):
+def nothing_acknowledged_is_lost_behind_kills(program, kills, seed):
     """The same over so many kills, a new journal for each so many of them."""
     of_one = OF_ONE_UNPROVED if program.is_unproved else OF_ONE
-    return all(is_kept_over(program, min(of_one, kills - done), seed + done, *kind) for done in range(0, kills, of_one))
-
-
-def no_acknowledged_change_is_lost_behind_kills(program, kills, seed):
-    """The same of a journal of changes."""
-    return nothing_acknowledged_is_lost_behind_kills(program, kills, seed, '--changes', Marking)
+    return all(is_kept_over(program, min(of_one, kills - done), seed + done) for done in range(0, kills, of_one))

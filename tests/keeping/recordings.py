@@ -1,22 +1,24 @@
-"""What a share's clients took, answered again by what is kept of it, whole or cut."""
+"""What a share's clients took, answered again by a record, whole or cut, and by a journal of events of before."""
 import os
+import random
+import re
 import struct
 import tempfile
 import threading
 from concurrent.futures import ThreadPoolExecutor
 
+from tests.keeping.events import of_record
 from tests.smb import ntlm
 from tests.smb.client import ALL_ACCESS, LONGEST_PIECE
 from tests.smb.frames import echoes, negotiate, read, session_setup, tree_connect, write
-from tests.smb.kept import (Heard, Looking, answered_in, bytes_in, bytes_of, extracted, keeping, killed, put, tree_in,
-                            tree_of)
+from tests.smb.kept import (Heard, Looking, answered_in, begun, bytes_in, bytes_of, cut_end, differs, keeping, killed,
+                            put, taken_out, tree_of)
 from tests.smb.working import CREATE, SESSION_ID_AT, Working
 
 # The moment of the first piece; how many clients work, and how often each sends some requests.
 SEED, MOMENT, AT_WORK, WORKS = 20_261_126, 133_000_000_000_000_000, 3, 4
 # The last bytes of a recording, at each of which it is cut.
 LAST = 400
-FORMS = ('--journal', '--record')
 DENIED = 0xC000006D
 # Who logs in by NTLM, as a guest.
 USER = 'somebody'
@@ -95,33 +97,31 @@ def are_moments(record):
     return moments == list(range(MOMENT, MOMENT + len(moments))) and moments
 
 
-def is_answered_again(program, form):
-    """Whether a replay of what is kept of a session answers to each connection what its client took."""
+def made_old(record):
+    """The file of a journal of events that has those of a record."""
+    return put(f'{record} old', of_record(bytes_of(record)))
+
+
+def a_record_is_answered_again(program):
+    """Several clients at once, one that the share ends, one that resets, one that sends single bytes: a replay answers
+    to each connection what its client took, also of a journal of the same events."""
     with tempfile.TemporaryDirectory() as folder:
         file = os.path.join(folder, 'kept')
-        with keeping(program, form, file, '--clock', str(MOMENT)) as share:
+        with keeping(program, '--record', file, '--clock', str(MOMENT)) as share:
             hearing = Hearing(share)
             several_work_at_once(hearing)
             for doing in (one_is_ended, one_is_reset, one_sends_single_bytes):
                 doing(hearing)
             is_served = share.client().is_served()
             killed(share)
-        lines, is_right = answered_in(program, file), is_served and (form == '--journal' or are_moments(file))
+        lines = answered_in(program, file)
+        is_right = is_served and are_moments(file) and answered_in(program, made_old(file)) == lines
         is_ended, is_reset = AT_WORK + 1, AT_WORK + 2
         for number, client in enumerate(hearing.clients, 1):
             again = heard_of(lines, number)
             is_right = is_right and client.heard and again.startswith(client.heard)
             is_right = is_right and (number == is_reset or again == client.heard)
         return is_right and [line for line in lines if line.startswith('x ')] == [f'x {is_ended}']
-
-
-def a_record_is_answered_again(program):
-    """Several clients at once, one that the share ends, one that resets, one that sends single bytes."""
-    return is_answered_again(program, '--record')
-
-
-def a_journal_is_answered_again(program):
-    return is_answered_again(program, '--journal')
 
 
 def logs_in(client):
@@ -136,35 +136,35 @@ def logs_in(client):
 
 def a_login_is_answered_again(program):
     """By NTLM, with the system's challenges, as a guest; behind a login that is denied, and one never finished."""
-    for form in FORMS:
-        with tempfile.TemporaryDirectory() as folder:
-            file = os.path.join(folder, 'kept')
-            with keeping(program, form, file, '--login', 'ntlm') as share:
-                clients = [Heard(share.port) for _ in range(3)]
-                is_well = (clients[0].negotiates() and clients[0].asks(session_setup(1, b'no token')) == DENIED
-                           and clients[1].negotiates()
-                           and clients[1].asks(session_setup(1, ntlm.NEGOTIATE_OF_NOBODY)) == ntlm.MORE_PROCESSING
-                           and logs_in(clients[2]))
-                killed(share)
-            lines = answered_in(program, file)
-            if not is_well or [heard_of(lines, 1 + i) for i in range(3)] != [client.heard for client in clients]:
-                return False
-    return True
+    with tempfile.TemporaryDirectory() as folder:
+        file = os.path.join(folder, 'kept')
+        with keeping(program, '--record', file, '--login', 'ntlm') as share:
+            clients = [Heard(share.port) for _ in range(3)]
+            is_well = (clients[0].negotiates() and clients[0].asks(session_setup(1, b'no token')) == DENIED
+                       and clients[1].negotiates()
+                       and clients[1].asks(session_setup(1, ntlm.NEGOTIATE_OF_NOBODY)) == ntlm.MORE_PROCESSING
+                       and logs_in(clients[2]))
+            killed(share)
+        lines = answered_in(program, file)
+        return (is_well and [heard_of(lines, 1 + i) for i in range(3)] == [client.heard for client in clients]
+                and answered_in(program, made_old(file)) == lines)
 
 
-# A recording that is cut.
+# A recording that is cut, or changed: a record, and a journal of the same events.
 
-def make(program, file, form, *words):
-    """A small recording: a file that is made, written twice and closed, and another client that was let in."""
-    with keeping(program, form, file, '--clock', str(MOMENT), *words) as share:
+def make_both(program, folder):
+    """A small record, and a journal of its events: a file that is made, written twice and closed, and another client
+    that was let in."""
+    record = os.path.join(folder, 'record')
+    with keeping(program, '--record', record, '--clock', str(MOMENT)) as share:
         client = Looking(share).comes_in()
-        number = client.opens('a', ALL_ACCESS, CREATE)
+        number = client.opens('f', ALL_ACCESS, CREATE)
         for at, data in ((0, b'text'), (4, b'more')):
             client.asks(write(client.next_id(), number, at, data, client.session, 1), 0, None)
         client.ends(number)
         Looking(share).comes_in()
         killed(share)
-    return file
+    return record, made_old(record)
 
 
 def lines_of(data):
@@ -210,88 +210,88 @@ def faults_at(places, fault_of):
     return faults
 
 
-def is_cut_well(program, form):
-    """Whether a replay of each cut answers a part of what the whole recording answers, from its begin on."""
+def those_that_are_cut_are_answered_in_part(program):
+    """A replay of each cut answers a part of what the whole recording answers, from its begin on."""
     with tempfile.TemporaryDirectory() as folder:
-        file = make(program, os.path.join(folder, 'kept'), form)
-        data, whole = bytes_of(file), answered_in(program, file)
+        def is_cut_well(file):
+            data, whole = bytes_of(file), answered_in(program, file)
 
-        def fault_of(place):
-            status, output, errors = program.ran('replay', '--recording', put(f'{file}.{place}', data[:place]))
-            lines = output.decode('ascii').splitlines()
-            if (status, errors) != (0, '') or whole[:len(lines)] != lines:
-                return f'{form}, cut at {place} of {len(data)}: {status}, {errors!r}, line {len(lines)} is another one'
-            return None
+            def fault_of(place):
+                status, output, errors = program.ran('replay', '--recording', put(f'{file}.{place}', data[:place]))
+                lines = output.decode('ascii').splitlines()
+                if (status, errors) != (0, '') or whole[:len(lines)] != lines:
+                    return f'{file}, cut at {place} of {len(data)}: {status}, {errors!r}, another line {len(lines)}'
+                return None
 
-        return not faults_at(places_of(program, data), fault_of)
+            return not faults_at(places_of(program, data), fault_of)
 
-
-def a_journal_that_is_cut_is_answered_in_part(program):
-    return is_cut_well(program, '--journal')
-
-
-def a_record_that_is_cut_is_answered_in_part(program):
-    return is_cut_well(program, '--record')
-
-
-def goes_on_behind_a_cut(program, file, data, place):
-    """Whether a share begins with what is whole of a journal, keeps no more of it, and goes on behind it."""
-    put(file, data[:place])
-    whole = max(end for end in ends_of(lines_of(data)) if end <= place)
-    with keeping(program, '--journal', file) as share:
-        new = bytes_of(file)
-        client = Looking(share).comes_in()
-        seen = bytes_in(client.tree())
-        client.opens('behind', ALL_ACCESS, CREATE)
-        killed(share)
-    with keeping(program, '--journal', file) as share:
-        again = bytes_in(tree_in(share))
-        killed(share)
-    return (new.startswith(data[:whole]) and b'\nb ' not in b'\n' + new[whole:] and again == {**seen, 'behind': b''}
-            and seen == files_of(data[:place]))
+        return all([is_cut_well(file) for file in make_both(program, folder)])
 
 
 def files_of(data):
-    """What the file of a small journal has that was cut: the bytes of its WRITEs that are whole."""
-    texts = [text for text in (b'text', b'more') if text + b'\n' in data]
-    return {'a': b''.join(texts)} if 'a'.encode('utf-16-le') + b'\n' in data else {}
+    """What the file of a small recording has that was cut: the bytes of its WRITEs that are whole."""
+    def has(text):
+        return text + b'\n' in data or text.hex().encode() + b'\n' in data
+
+    texts = [text for text in (b'text', b'more') if has(text)]
+    return {'f': b''.join(texts)} if has('f'.encode('utf-16-le')) else {}
 
 
-def is_extracted(program, file, data, place):
-    """Whether an extraction of a journal that was cut gives what is whole of it."""
-    folder = f'{file} extracted'
-    found = extracted(program, put(file, data[:place]), folder)
-    if found != (0, ''):
-        print(f'  cut at {place} of {len(data)}: {found}', flush=True)
-    return found == (0, '') and bytes_in(tree_of(folder)) == files_of(data[:place])
-
-
-def is_at_cuts(program, is_so):
-    """Whether it is so of a journal that is cut behind the head of a piece, in its bytes, before its line feed, between
-    a login and its answer, in another line, behind a WRITE, and before the line feed of one."""
+def those_that_are_cut_are_extracted(program):
+    """Near each end of a line: what is whole is taken out, and it is said how much of a last line is left out."""
     with tempfile.TemporaryDirectory() as folder:
-        data = bytes_of(make(program, os.path.join(folder, 'kept'), '--journal'))
-        lines = lines_of(data)
-        ends = ends_of(lines)
-        answer = next(i for i, line in enumerate(lines) if line.startswith(b'= '))
-        opening = next(i for i, line in enumerate(lines) if line.startswith(b'+ 2'))
-        written = next(i for i, line in enumerate(lines) if line.endswith(b'more\n'))
-        places = (ends[opening - 2] + lines[opening - 1].index(b'\n') + 1, ends[opening - 1] - 40,
-                  ends[opening - 1] - 1, ends[answer - 1], ends[opening] - 2, ends[opening - 3], ends[written] - 1)
-        wrong = [place for place in places if not is_so(program, os.path.join(folder, str(place)), data, place)]
-        if wrong:
-            print(f'  cut at {wrong} of {len(data)}', flush=True)
-        return not wrong
+        def is_cut_well(word, file):
+            data = bytes_of(file)
+            ends = ends_of(lines_of(data))
+
+            def fault_of(place):
+                to, left = f'{file} to {place}', place - max(end for end in ends if end <= place)
+                found = taken_out(program, put(f'{file}.{place}', data[:place]), to)
+                files = bytes_in(tree_of(to))
+                if (found, files) == ((0, cut_end('standard input', left, word, 'line')), files_of(data[:place])):
+                    return None
+                return f'{word}, cut at {place} of {len(data)}: {found}, {files}'
+
+            near = {place for end in ends for place in (end - 1, end, end + 1, end + 17)}
+            return not faults_at(sorted(place for place in near if ends[1] <= place <= len(data)), fault_of)
+
+        record, journal = make_both(program, folder)
+        return is_cut_well('record', record) and is_cut_well('journal', journal)
 
 
-def a_share_goes_on_behind_a_cut(program):
-    return is_at_cuts(program, goes_on_behind_a_cut)
+def a_journal_of_events_that_was_changed_is_found(program):
+    """A byte of it anywhere behind the comments of its begin, but for the very last line feed; a line that is missing,
+    but for the last one; and two that are swapped."""
+    with tempfile.TemporaryDirectory() as folder:
+        _, file = make_both(program, folder)
+        data, chance = bytes_of(file), random.Random(SEED)
+        lines, others = lines_of(data), {}
+        for place in range(ends_of(lines)[1], len(data) - 1, apart(program)):
+            byte = data[place] ^ chance.choice((1, 2, 4, 8, 16, 64, 128))
+            others[f'byte {place}'] = data[:place] + bytes([byte]) + data[place + 1:]
+        for i in range(2, len(lines) - 1):
+            others[f'without line {i + 1}'] = b''.join(lines[:i] + lines[i + 1:])
+            others[f'swapped at line {i + 1}'] = b''.join([*lines[:i], lines[i + 1], lines[i], *lines[i + 2:]])
+
+        def fault_of(name):
+            status, _, errors = program.ran('replay', '--recording', put(os.path.join(folder, name), others[name]))
+            if status == 1 and re.fullmatch('journal: line [0-9]+: .+: take a back-up of it\n', errors):
+                return None
+            return f'{name} of {len(data)}: {status}, {errors!r}'
+
+        return not faults_at(others, fault_of)
 
 
-def a_journal_that_is_cut_is_extracted(program):
-    return is_at_cuts(program, is_extracted)
+def what_is_no_recording_is_not_replayed(program):
+    """A journal, and a text."""
+    with tempfile.TemporaryDirectory() as folder:
+        journal, text = os.path.join(folder, 'journal'), put(os.path.join(folder, 'text'), b'a text\n')
+        begun(program, '--journal', journal)
+        said = 'journal: no recording: its first line is not that of one; name a file that --record made\n'
+        return not any([differs(program.ran('replay', '--recording', it), (1, b'', said), it)
+                        for it in (journal, text)])
 
 
-TESTS = (a_record_is_answered_again, a_journal_is_answered_again, a_login_is_answered_again,
-         a_journal_that_is_cut_is_answered_in_part, a_record_that_is_cut_is_answered_in_part,
-         a_share_goes_on_behind_a_cut, a_journal_that_is_cut_is_extracted)
+TESTS = (a_record_is_answered_again, a_login_is_answered_again, those_that_are_cut_are_answered_in_part,
+         those_that_are_cut_are_extracted, a_journal_of_events_that_was_changed_is_found,
+         what_is_no_recording_is_not_replayed)

@@ -5,18 +5,18 @@ import subprocess
 import tempfile
 from concurrent.futures import ThreadPoolExecutor
 
-from tests.keeping.killing import OVERWRITE_IF, Keeping
-from tests.keeping.recordings import ends_of, lines_of
+from tests.keeping.journal import FIRST_BYTES, FRONT, batches_of
+from tests.keeping.killing import Keeping, Marking
 from tests.smb.client import ALL_ACCESS, PATIENCE
-from tests.smb.frames import write
+from tests.smb.frames import set_info, write
 from tests.smb.kept import begins_to_keep, bytes_in, bytes_of, killed, put, tree_in
 from tests.smb.preload import built
 from tests.smb.program import Served, limits
-from tests.smb.working import Ended
+from tests.smb.working import CREATE, DISPOSITION, Ended
 
 SEED, REQUESTS, MOMENT = 20_261_126, 40, 134_000_000_000_000_000
-# How many bytes are written again and again, so that a journal is written anew at its next start, and how often.
-LONG, TIMES = 60_000, 10
+# How many bytes one file has of a journal with which a share begins.
+LONG = 60_000
 MOST_SAID = 5
 
 
@@ -51,11 +51,11 @@ class Trial:
         self.journal, self.own, self.others = journal, own or {}, others or {}
 
     def works(self, share):
-        """What may be there once the client has made so many requests, or was ended."""
+        """What may be there once the client has made so many requests, or was ended, also behind a kill."""
         if share.port is None:
             return [self.own]
         try:
-            client = Keeping(share, 0, SEED, self.own)
+            client = Marking(share, 0, SEED, self.own)
         except ConnectionError:
             return [self.own]
         try:
@@ -64,7 +64,7 @@ class Trial:
                 client.does_one()
         except (Ended, ConnectionError):
             pass
-        return client.may_be_left()
+        return client.may_be_left() + Keeping.may_be_left(client)
 
     def begun(self, folder):
         """A new copy of the journal."""
@@ -130,15 +130,15 @@ def is_well_at_each_allocation(trial):
                 return are_well(faults)
 
 
-def long_journal(program, library, folder):
-    """A trial over a journal that the next start writes anew."""
-    file, work = os.path.join(folder, 'long'), Trial(program, library)
+def trial_of_a_start(program, library, folder):
+    """A trial over a journal of many batches, and of a file that is marked and goes at the next start."""
+    file, work = os.path.join(folder, 'whole'), Trial(program, library)
     with Refusing(program, file) as share:
-        own, long = work.works(share)[0], Keeping(share, 1, SEED, {}).comes_in()
-        for _ in range(TIMES):
-            number = long.opens('1 long', ALL_ACCESS, OVERWRITE_IF)
-            long.asks(write(long.next_id(), number, 0, bytes(LONG), long.session, 1), 0, None)
-            long.ends(number)
+        own, other = work.works(share)[0], Marking(share, 1, SEED, {}).comes_in()
+        for name in ('1 long', '1 marked'):
+            number = other.opens(name, ALL_ACCESS, CREATE)
+            other.asks(write(other.next_id(), number, 0, bytes(LONG), other.session, 1), 0, None)
+        other.asks(set_info(other.next_id(), number, DISPOSITION, b'\1', other.session, 1), 0, None)
         killed(share)
     return Trial(program, library, file, own, {'1 long': bytes(LONG)})
 
@@ -150,20 +150,21 @@ def each_allocation_of_a_kept_share(program):
 
 
 def each_allocation_of_a_start(program):
-    """Where a journal is performed and written anew, and a client then goes on with its files."""
+    """Where a journal is read, what is marked goes, and a client then goes on with its files."""
     with built('refuse_allocation') as library, tempfile.TemporaryDirectory() as folder:
-        return is_well_at_each_allocation(long_journal(program, library, folder))
+        return is_well_at_each_allocation(trial_of_a_start(program, library, folder))
 
 
 def each_write_of_a_journal(program):
-    """Where the journal is full behind each of its lines, and within each of them."""
+    """Where the journal is full behind each of its batches, and within each: in its front, its changes and its back."""
     with tempfile.TemporaryDirectory() as folder:
         trial, file = Trial(program, None), os.path.join(folder, 'whole')
         with Refusing(program, file) as share:
             trial.works(share)
             killed(share)
-        ends = ends_of(lines_of(bytes_of(file)))
-        places = sorted({place for end in ends[2:-1] for place in (end, end + 9)})
+        ends = [FIRST_BYTES, *batches_of(bytes_of(file))]
+        within = [(begin, begin + 9, begin + FRONT + 3, end - 4) for begin, end in zip(ends, ends[1:-1])]
+        places = [20, *(place for places in within for place in places)]
         with ThreadPoolExecutor(os.cpu_count()) as pool:
             return are_well(list(zip(places, pool.map(trial.fault_at_write, places))))
 

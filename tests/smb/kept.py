@@ -17,8 +17,8 @@ BYTES_AT, ENTRIES_AT = 80, 72
 # How many units of 100 ns a second has, and which one is that of 1970.
 SECOND, OF_1970 = 10_000_000, 116_444_736_000_000_000
 
-# What is said of a recording whose last line is cut.
-CUT = r'(?:journal|record): standard input: its last line was cut: (?:1 byte is|\d+ bytes are) left out\n'
+# What is said of a journal or a recording whose end is cut.
+CUT = r'(?:journal|record): standard input: its last (?:batch|line) was cut: (?:1 byte is|\d+ bytes are) left out\n'
 
 # What a client sees of a file or a folder: its bytes, None of a folder; whether it is READONLY; and when it was
 # written, in seconds since 1970.
@@ -30,9 +30,9 @@ def keeping(program, *words, **limits):
     return program.serve('--config', GUEST, *words, **limits)
 
 
-def begins_to_keep(program, file, *words, form='--journal', **how):
-    """A process of the program that begins to serve a share, which it keeps in a file."""
-    words = ('serve', '--listen', '127.0.0.1:0', '--config', GUEST, *words, form, file)
+def begins_to_keep(program, file, *words, **how):
+    """A process of the program that begins to serve a share, which it keeps in a journal."""
+    words = ('serve', '--listen', '127.0.0.1:0', '--config', GUEST, *words, '--journal', file)
     return program.begins(*words, **{'stderr': subprocess.DEVNULL, **how})
 
 
@@ -63,11 +63,39 @@ def answered_in(program, file):
     return output.decode('ascii').splitlines()
 
 
-def extracted(program, file, folder):
-    """The status and standard error of an extraction of a file into a folder, without the line that its last line is cut."""
+def taken_out(program, file, folder, longest=None):
+    """The status and standard error of an extraction of a file into a folder."""
     with open(file, 'rb') as it:
-        status, _, errors = program.ran('extract', folder, given=it)
+        return program.ran('extract', folder, given=it, longest=longest)[::2]
+
+
+def extracted(program, file, folder):
+    """The same, without the line that its end is cut."""
+    status, errors = taken_out(program, file, folder)
     return status, re.sub(CUT, '', errors)
+
+
+def checked(program, file):
+    """The status, standard output and standard error of a check of a journal, which is not written by it."""
+    before = bytes_of(file), os.stat(file).st_mtime_ns
+    status, output, errors = program.ran('check-journal', file)
+    if (bytes_of(file), os.stat(file).st_mtime_ns) != before:
+        raise AssertionError(f'a check writes to {file}')
+    return status, output.decode(), errors
+
+
+def cut_end(name, count, word='journal', end='batch'):
+    """What is said of a file whose end is cut, where so many bytes of it are left out."""
+    left = '1 byte is' if count == 1 else f'{count} bytes are'
+    return f'{word}: {name}: its last {end} was cut: {left} left out\n' if count else ''
+
+
+def differs(found, wanted, what):
+    """Whether it is not what is wanted, which is said."""
+    if found == wanted:
+        return False
+    print(f'  {what}: {found}, not {wanted}', flush=True)
+    return True
 
 
 def bytes_of(file):

@@ -1,38 +1,24 @@
-//! The command `compact`: a new journal of what a recording leaves.
+//! The command `compact`: a journal of the files that another one or a recording leaves.
 
-use crate::replaying::{STANDARD_INPUT, check_input};
-use smb_command_parts::{Fault, random_seed};
-use smb_journal::Store;
-use smb_kept::{KeptFault, write_journal};
+use crate::replaying::{STANDARD_INPUT, check_input, say_left_out};
+use smb_command_parts::{Fault, random_number, random_seed};
+use smb_kept::KeptFault;
 use smb_replay::CommandFault;
-use std::io;
-use std::io::{BufWriter, Write};
+use std::io::BufWriter;
 
-/// Standard output, or whatever else takes bytes.
-#[derive(Drop)]
-struct Output<W: Write + Drop> {
-    writer: W,
-}
-
-impl<W: Write + Drop> Store for Output<W> {
-    fn add(&mut self, bytes: &[u8]) -> io::Result<()> {
-        self.writer.write_all(bytes)
-    }
-
-    fn settle(&mut self) -> io::Result<()> {
-        self.writer.flush()
-    }
-}
-
-/// Writes a journal to standard output that makes the files which the recording on standard input leaves.
+/// Writes a journal to standard output of the files that the journal or recording on standard input leaves. Standard
+/// error says where its end was cut.
 pub fn compact(rt: &HostRuntime) -> Result<(), Fault> {
     check_input(rt)?;
-    let token = random_seed()?;
-    let Ok(writer) = BufWriter::new(rt.alloc(), rt.stdout()) else {
+    let (token, seed) = (random_seed()?, random_number()?);
+    let Ok(mut output) = BufWriter::new(rt.alloc(), rt.stdout()) else {
         return Err(Fault::Command(CommandFault::NoMemory));
     };
-    match write_journal(rt, STANDARD_INPUT, Output { writer }, token) {
-        Ok(()) => Ok(()),
+    match smb_kept::compact(rt, STANDARD_INPUT, token, seed, &mut output) {
+        Ok(compacted) => {
+            say_left_out(rt, compacted.kind, compacted.left_out);
+            Ok(())
+        }
         Err(KeptFault::RecordFailed(_)) => Err(Fault::Command(CommandFault::OutputFailed)),
         Err(fault) => Err(Fault::Kept(fault)),
     }

@@ -33,8 +33,8 @@ impl<'a> Hearing<'a> {
         }
     }
 
-    /// Writes a last line, with the sessions and the opens that are left. Where a line could not be written standard error says so
-    /// already.
+    /// Writes a last line, with the sessions and the opens that are left. Where a line could not be written standard
+    /// error says so already.
     pub fn finish(mut self, usage: Usage) {
         if let Some(log) = &mut self.log {
             log.minute(usage, false);

@@ -1,13 +1,17 @@
-//! Events performed without serving a share: those of standard input, and those of a recording, whose answers are printed or
-//! whose files are taken out.
+//! Events performed without serving a share: those of standard input, and those of a recording, whose answers are
+//! printed or whose files are taken out.
 
 use crate::hearing::Hearing;
 use smb_command_line::{Login, NtlmWords, Texts};
-use smb_command_parts::{Fault, LogWords, ntlm_of, random_seed, read_accounts, say_cut};
+use smb_command_parts::{
+    Fault, LogWords, ntlm_of, random_seed, read_accounts, say_cut, say_cut_batch,
+};
 use smb_config::Configuration;
 use smb_engine::{Answer, Authenticator, Event, HandleTable, NodeTree, Share, Tokens};
 use smb_journal::{Form, JournalFault, LimitedConfig, Mailbox, RecordedLogin};
-use smb_kept::{Hears, KeptFault, nobody, perform_file, read_recording, recorded_login, share_of};
+use smb_kept::{
+    Hears, KeptFault, Kind, nobody, perform_file, read_recording, recorded_login, share_of,
+};
 use smb_ntlm::SigningMode;
 use smb_peers::{Acting, Ending, Observer, Responded};
 use smb_reason::Reason;
@@ -191,7 +195,7 @@ fn printed_of<'m>(
 ) -> Result<Printed<'m>, Fault> {
     let alloc = rt.alloc();
     let (header, given) = read_recording(rt, path)?;
-    let limited = header.config(alloc).map_err(KeptFault::Journal)?;
+    let limited = header.config(alloc).map_err(KeptFault::Recording)?;
     let (limits, created) = (limited.limits, limited.config.created);
     let login = recorded_login(
         header.hello,
@@ -248,7 +252,8 @@ fn print_logged(rt: &HostRuntime, path: &str, log: Option<LogWords<'_>>) -> Resu
     }
 }
 
-/// Prints what a share answered that is recorded in a file, a line for each frame, and for each connection that it ended.
+/// Prints what a share answered that is recorded in a file, a line for each frame, and for each connection that it
+/// ended.
 pub fn print_recording(
     rt: &HostRuntime,
     path: &str,
@@ -264,17 +269,25 @@ pub fn print_recording(
 pub fn check_input(rt: &HostRuntime) -> Result<(), Fault> {
     match fs::metadata(rt, STANDARD_INPUT) {
         Ok(found) if found.is_file() => Ok(()),
-        _ => Err(Fault::Kept(KeptFault::Journal(JournalFault::NoFile))),
+        _ => Err(Fault::Kept(KeptFault::Recording(JournalFault::NoFile))),
     }
 }
 
-/// Makes a new folder of the files and folders that the recording on standard input leaves. Standard error says where its last line was
-/// cut, and has a line for each file or folder that was not taken out whole.
+/// Says on standard error that the end of what was read on standard input was cut, where bytes of it are left out.
+pub fn say_left_out(rt: &HostRuntime, kind: Kind, left_out: u64) {
+    match kind {
+        Kind::Journal => say_cut_batch(rt, "standard input", left_out),
+        Kind::Recording(form) => say_cut(rt, form, "standard input", left_out),
+    }
+}
+
+/// Makes a new folder of the files and folders that the journal or recording on standard input leaves. Standard error
+/// says where its end was cut, and has a line for each file or folder that was not taken out whole.
 pub fn extract(rt: &HostRuntime, folder: &str) -> Result<(), Fault> {
     check_input(rt)?;
     let token = random_seed()?;
     let extracted = smb_kept::extract(rt, STANDARD_INPUT, folder, token)?;
-    say_cut(rt, extracted.form, "standard input", extracted.left_out);
+    say_left_out(rt, extracted.kind, extracted.left_out);
     for fault in extracted.refused.iter() {
         let _ = eprintln!(rt; "folder: {fault}");
     }

@@ -41,9 +41,6 @@ pub enum FolderRule {
     /// It was made longer or shorter, was written, or gave way to another one.
     #[error("it changed while it was read: try again while nobody writes there")]
     Changed,
-    /// A time of an entry of a share: 0, or past 2^63 - 1.
-    #[error("a time that no request can set")]
-    NoTime,
     #[error("it exists already: name a new folder")]
     Exists,
     /// The system does not let it be read, for this reason.

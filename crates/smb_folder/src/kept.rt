@@ -1,9 +1,7 @@
 //! What is kept of a file or a folder beside its name and its bytes.
 
-use super::fault::FolderRule;
 use smb_client::FileAttributes;
 use smb_peers::{FILETIME_OF_1970, filetime_of, since_1970};
-use smb_wire::{u32_at, u64_at};
 use std::alloc::{AllocError, Global};
 use std::fs::{FileTimes, Metadata};
 use std::io;
@@ -47,11 +45,6 @@ fn time_of(moment: u64) -> SystemTime {
     UNIX_EPOCH.checked_add(since).unwrap_or(UNIX_EPOCH)
 }
 
-/// Whether a request can set a time: 0 leaves a time as it is, and one past the last is refused ([MS-FSCC] 2.4.7).
-fn can_be_set(moment: u64) -> bool {
-    (1..=LAST_MOMENT).contains(&moment)
-}
-
 impl Kept {
     /// What is kept of a file or a folder of the system. The time of its last write is taken for its creation and its change too.
     /// What its owner may not write is READONLY, and has these attributes besides.
@@ -71,17 +64,6 @@ impl Kept {
         }
     }
 
-    /// FileBasicInformation ([MS-FSCC] 2.4.7); None where bytes are none.
-    pub(crate) fn of_basic_information(bytes: &[u8]) -> Option<Kept> {
-        Some(Kept {
-            created: u64_at(bytes, 0)?,
-            accessed: u64_at(bytes, 8)?,
-            modified: u64_at(bytes, 16)?,
-            changed: u64_at(bytes, 24)?,
-            attributes: FileAttributes(u32_at(bytes, 32)?),
-        })
-    }
-
     /// Whether it is READONLY.
     pub(crate) fn is_read_only(&self) -> bool {
         self.attributes.0 & FileAttributes::READONLY.0 != 0
@@ -90,15 +72,6 @@ impl Kept {
     /// The four times, in the order of FileBasicInformation.
     fn all_times(&self) -> [u64; 4] {
         [self.created, self.accessed, self.modified, self.changed]
-    }
-
-    /// Refuses a time that no request can set.
-    pub(crate) fn check_times(&self) -> Result<(), FolderRule> {
-        if self.all_times().iter().all(|moment| can_be_set(*moment)) {
-            Ok(())
-        } else {
-            Err(FolderRule::NoTime)
-        }
     }
 
     /// The times of a file of the system.

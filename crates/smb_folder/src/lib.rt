@@ -6,15 +6,12 @@
 //! of the last write and of the last access are kept, in units of 100 ns, and READONLY, which is a mode without a right
 //! to write.
 //!
-//! [`copy_share`] copies one share into another, with all that a request can set: all four times and all attributes.
-//!
 //! What cannot be moved is a [`FolderFault`], which names the path and the rule, and is the end: what was moved before
 //! stays. But [`take_folder`] goes on behind it, and tells of all that it could not take. None needs more memory than the names in the folders that are being walked, and one part of a file.
 //!
 //! That the calls are safe and return is proved; what they make of files and requests is tested.
 #![tactic(auto)]
 
-mod copy;
 mod counts;
 mod fault;
 mod grouped;
@@ -26,7 +23,6 @@ mod put;
 mod take;
 mod talk;
 
-pub use copy::copy_share;
 pub use counts::Counts;
 pub use fault::{FolderFault, FolderRule};
 pub use progress::Progress;

@@ -186,18 +186,13 @@ impl<'l, 'c, L: Line> Talk<'l, 'c, L> {
     /// Opens what is at a path below the share's root, for a purpose.
     pub(crate) fn open(&mut self, relative: &str, purpose: Purpose) -> Result<FileId, Trouble> {
         let path = share_path(self.alloc, relative)?;
-        let units = units_of(self.alloc, &path)?;
-        self.open_units(&units, purpose)
-    }
-
-    /// The same, of a path in UTF-16 units, as the share has it.
-    pub(crate) fn open_units(&mut self, path: &[u8], purpose: Purpose) -> Result<FileId, Trouble> {
+        let path = units_of(self.alloc, &path)?;
         let limits = self.limits;
-        let name = Units::of(path).ok_or(FolderRule::NotForTheShare)?;
+        let name = Units::of(&path).ok_or(FolderRule::NotForTheShare)?;
         self.client.ask(&create_request(name, purpose))?;
         let reply = self.reply()?;
         if !is_success(&reply) {
-            return Err(Trouble::Rule(rule_of_create(limits, path, reply.status())));
+            return Err(Trouble::Rule(rule_of_create(limits, &path, reply.status())));
         }
         match reply.file_id() {
             Some(file_id) => Ok(file_id),
@@ -234,29 +229,6 @@ impl<'l, 'c, L: Line> Talk<'l, 'c, L> {
         accept(&self.reply()?)
     }
 
-    /// The times and attributes of what is at a path in UTF-16 units.
-    pub(crate) fn kept_at(&mut self, path: &[u8]) -> Result<Kept, Trouble> {
-        let file_id = self.open_units(path, Purpose::ListFolder)?;
-        self.client.ask(&Request::QueryInfo(QueryInfoRequest {
-            info_type: InfoType::FILE,
-            file_info_class: BASIC_INFORMATION,
-            output_buffer_length: BASIC_LENGTH,
-            input_buffer_offset: 0,
-            reserved: 0,
-            input_buffer_length: 0,
-            additional_information: AdditionalInformation(0),
-            flags: QueryInfoFlags(0),
-            file_id,
-        }))?;
-        let reply = self.reply()?;
-        accept(&reply)?;
-        let Some(kept) = reply.data().and_then(Kept::of_basic_information) else {
-            return Err(Trouble::Rule(FolderRule::Unanswered));
-        };
-        self.close(file_id)?;
-        Ok(kept)
-    }
-
     /// Sets the times and attributes of what is open.
     pub(crate) fn mark(&mut self, file_id: FileId, kept: &Kept) -> Result<(), Trouble> {
         let information = kept.basic_information(self.alloc)?;
@@ -290,15 +262,8 @@ impl<'l, 'c, L: Line> Talk<'l, 'c, L> {
 
     /// The entries of the folder that is at a path below the share's root, in the order of the share.
     pub(crate) fn list(&mut self, relative: &str) -> Result<Vec<Listed>, Trouble> {
-        let path = share_path(self.alloc, relative)?;
-        let units = units_of(self.alloc, &path)?;
-        self.list_units(&units)
-    }
-
-    /// The same, of a path in UTF-16 units.
-    pub(crate) fn list_units(&mut self, path: &[u8]) -> Result<Vec<Listed>, Trouble> {
         let alloc = self.alloc;
-        let file_id = self.open_units(path, Purpose::ListFolder)?;
+        let file_id = self.open(relative, Purpose::ListFolder)?;
         let mut listed = Vec::new(alloc);
         for _ in 0..u64::MAX {
             match self.next_listed(file_id)? {

@@ -25,14 +25,8 @@ pub enum JournalFault {
     #[error("standard input is no file: give the recording by <")]
     NoFile,
     /// It does not begin with the line that a recording begins with.
-    #[error("no recording: its first line is not that of one; name a file that --journal or --record made")]
+    #[error("no recording: its first line is not that of one; name a file that --record made")]
     NoRecording,
-    /// It is text, and was to be gone on with.
-    #[error("a record, and no journal: name another file, or make a journal of it by `compact`")]
-    NoJournal,
-    /// Its first line names another share, or another way of login.
-    #[error("of another share: its first line names another name, label, guid, capacity, moment, limit or hello; serve it as it was made, or `extract` its files")]
-    OtherShare,
     /// The line of this number can't be read, and others are behind it.
     #[error("line {0}: unreadable: take a back-up of it")]
     Unreadable(u64),

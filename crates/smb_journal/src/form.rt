@@ -9,12 +9,12 @@ use std::alloc::Global;
 use std::io;
 use std::io::Write;
 
-/// How a recording is written.
+/// How a recording is spelled.
 #[derive(Clone, Copy, Debug, PartialEq, Eq)]
 pub enum Form {
-    /// As text, which a replay reads: the bytes of a piece are hex.
+    /// As text, which a replay reads: the bytes of a piece are hex. So all are written.
     Recording,
-    /// With the bytes of a piece as they are, and a check on each line: half as long.
+    /// As an older program wrote its journals: with the bytes of a piece as they are, and a check on each line.
     Journal,
 }
 
@@ -26,20 +26,23 @@ impl Form {
             Form::Journal => "journal",
         }
     }
-
-    /// How many bytes the line of a piece of 65,536 bytes takes at most.
-    pub(crate) fn line_room(self) -> usize {
-        match self {
-            Form::Recording => 131_200,
-            Form::Journal => 65_664,
-        }
-    }
 }
 
 /// What the first line of each form begins with.
 const RECORDING: &[u8] = b"# smbshare recording 1 ";
 
 const JOURNAL: &[u8] = b"# smbshare journal 1 ";
+
+/// The form of a file that begins like this; None where it is no recording.
+pub fn form_of(line: &[u8]) -> Option<Form> {
+    if line.starts_with(RECORDING) {
+        Some(Form::Recording)
+    } else if line.starts_with(JOURNAL) {
+        Some(Form::Journal)
+    } else {
+        None
+    }
+}
 
 /// The words before each of the other fields, behind the share's name.
 const LABEL: &[u8] = b" label=\"";
@@ -144,7 +147,6 @@ impl Header {
     /// The first line of a recording of a share of this configuration.
     pub fn of(
         alloc: Global,
-        form: Form,
         limited: &LimitedConfig,
         signing_required: bool,
         hello: &[u8],
@@ -152,7 +154,7 @@ impl Header {
         let mut share = Vec::new(alloc);
         write_share(limited, &mut share).map_err(JournalFault::of_write)?;
         Ok(Header {
-            form,
+            form: Form::Recording,
             share,
             signing_required,
             hello: Vec::from_slice(alloc, hello)?,
@@ -188,19 +190,10 @@ impl Header {
         })
     }
 
-    /// Whether both are of one share, with one first token.
-    pub fn is_like(&self, other: &Header) -> bool {
-        self.share.as_slice() == other.share.as_slice()
-            && self.hello.as_slice() == other.hello.as_slice()
-    }
-
-    /// The line, with its line feed.
+    /// The line of a recording, with its line feed.
     pub fn line(&self, alloc: Global) -> Result<Vec<u8>, JournalFault> {
         let mut line = Vec::new(alloc);
-        line.extend_from_slice(match self.form {
-            Form::Recording => RECORDING,
-            Form::Journal => JOURNAL,
-        })?;
+        line.extend_from_slice(RECORDING)?;
         line.extend_from_slice(&self.share)?;
         if self.signing_required {
             line.extend_from_slice(SIGNING_REQUIRED)?;

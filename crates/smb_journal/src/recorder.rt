@@ -2,9 +2,8 @@
 
 ghost use Rattle.std.specs.Prelude.{◌≡◌, is_some};
 
-use crate::check::check_of;
 use crate::fault::JournalFault;
-use crate::form::{Form, Header};
+use crate::form::Header;
 use crate::mailbox::Mailbox;
 use crate::store::Store;
 use crate::text::write_hex;
@@ -13,17 +12,17 @@ use std::alloc::Global;
 use std::io::{ErrorKind, Write};
 use std::{io, mem};
 
+/// How many bytes the line of a piece of 65,536 bytes takes at most.
+const LINE_ROOM: usize = 131_200;
+
 /// A line for each event, written before the call returns. After a failed write nothing more is written.
 #[derive(Drop)]
 pub struct Recorder<S: Store + Drop> {
     store: S,
-    form: Form,
     alloc: Global,
     /// The line that is made, and the answers that were taken last.
     line: Vec<u8>,
     answers: Vec<u8>,
-    /// The check of the line that was written last.
-    check: u64,
     /// Whether what was written is not settled yet, and whether it is to be.
     is_dirty: bool,
     settles: bool,
@@ -32,23 +31,14 @@ pub struct Recorder<S: Store + Drop> {
 }
 
 impl<S: Store + Drop> Recorder<S> {
-    /// Goes on behind what a store keeps already, whose last line has this check; 0 where it has none. With `settles` what is
-    /// written is settled before it is answered. Room for a line is made first, so that none fails for want of memory while a share
-    /// is served whose pieces have at most 65,536 bytes.
-    pub fn new(
-        alloc: Global,
-        store: S,
-        form: Form,
-        settles: bool,
-        check: u64,
-    ) -> Result<Self, JournalFault> {
+    /// Writes to a store. With `settles` what is written is settled before it is answered. Room for a line is made
+    /// first, so that none fails for want of memory while a share is served whose pieces have at most 65,536 bytes.
+    pub fn new(alloc: Global, store: S, settles: bool) -> Result<Self, JournalFault> {
         Ok(Recorder {
             store,
-            form,
             alloc,
-            line: Vec::with_capacity(alloc, form.line_room())?,
+            line: Vec::with_capacity(alloc, LINE_ROOM)?,
             answers: Vec::new(alloc),
-            check,
             is_dirty: false,
             settles,
             failure: None,
@@ -108,16 +98,6 @@ impl<S: Store + Drop> Recorder<S> {
         }
     }
 
-    /// Ends the text of a line, with its check where it has one.
-    fn end_line(&mut self) -> io::Result<()> {
-        if self.form == Form::Journal {
-            let check = check_of(self.check, &self.line);
-            write!(self.line, " {check:016x}")?;
-            self.check = check;
-        }
-        self.line.write_all(b"\n")
-    }
-
     /// Writes a line of a mark and numbers.
     fn numbers(&mut self, mark: char, first: u64, second: Option<u64>) {
         self.line.clear();
@@ -126,7 +106,7 @@ impl<S: Store + Drop> Recorder<S> {
             made = write!(self.line, " {second}");
         }
         if made.is_ok() {
-            made = self.end_line();
+            made = self.line.write_all(b"\n");
         }
         self.write(made);
     }
@@ -146,20 +126,10 @@ impl<S: Store + Drop> Recorder<S> {
         self.numbers('~', connection, Some(done as u64));
     }
 
-    /// The line of a piece as hex.
-    fn make_hex(&mut self, connection: u64, moment: u64, piece: &[u8]) -> io::Result<()> {
+    /// The line of a piece.
+    fn make_line(&mut self, connection: u64, moment: u64, piece: &[u8]) -> io::Result<()> {
         write!(self.line, "> {connection} {moment} ")?;
         write_hex(piece, &mut self.line)?;
-        self.line.write_all(b"\n")
-    }
-
-    /// The line of a piece, with its bytes.
-    fn make_bytes(&mut self, connection: u64, moment: u64, piece: &[u8]) -> io::Result<()> {
-        let length = piece.len();
-        let sum = check_of(0, piece);
-        write!(self.line, "b {connection} {moment} {length} {sum:016x}")?;
-        self.end_line()?;
-        self.line.write_all(piece)?;
         self.line.write_all(b"\n")
     }
 
@@ -169,10 +139,7 @@ impl<S: Store + Drop> Recorder<S> {
             return;
         }
         self.line.clear();
-        let made = match self.form {
-            Form::Recording => self.make_hex(connection, moment, piece),
-            Form::Journal => self.make_bytes(connection, moment, piece),
-        };
+        let made = self.make_line(connection, moment, piece);
         self.write(made);
     }
 
@@ -194,7 +161,7 @@ impl<S: Store + Drop> Recorder<S> {
                 self.line.clear();
                 let mut made = self.line.write_all(line);
                 if made.is_ok() {
-                    made = self.end_line();
+                    made = self.line.write_all(b"\n");
                 }
                 self.write(made);
             }

@@ -1,6 +1,6 @@
 //! Why a share cannot be kept, or not be gone on with.
 
-use crate::changes::ChangesFault;
+use crate::journal::FileFault;
 use smb_client::ClientFault;
 use smb_folder::FolderFault;
 use smb_journal::JournalFault;
@@ -16,31 +16,21 @@ pub enum KeptFault {
     /// The share refuses the configuration.
     BadConfig,
     /// A file that a share is recorded in, or made from.
-    Journal(JournalFault),
+    Recording(JournalFault),
     /// What happened to a share could not be recorded, for this reason.
     RecordFailed(Reason),
     /// A file or folder that can't be put into the share, or taken out of it.
     Folder(FolderFault),
-    /// A file or folder of a recording that can't be made by requests.
-    Copied(FolderFault),
-    /// A journal of changes.
-    Changes(ChangesFault),
+    /// A file that is not taken as a journal.
+    File(FileFault),
 }
 
 impl KeptFault {
-    /// The fault of a journal of changes with which a share can't begin.
+    /// The fault of a journal with which a share can't begin.
     pub(crate) fn of_start(fault: StartFault) -> KeptFault {
         match fault {
             StartFault::NoMemory => KeptFault::NoMemory,
-            fault => KeptFault::Changes(ChangesFault::Start(fault)),
-        }
-    }
-
-    /// The fault of a copy, where a fault is one of a file or folder.
-    pub(crate) fn of_copy(self) -> KeptFault {
-        match self {
-            KeptFault::Folder(fault) => KeptFault::Copied(fault),
-            fault => fault,
+            fault => KeptFault::File(FileFault::Start(fault)),
         }
     }
 }
@@ -53,7 +43,7 @@ impl From<AllocError> for KeptFault {
 
 impl From<JournalFault> for KeptFault {
     fn from(fault: JournalFault) -> KeptFault {
-        KeptFault::Journal(fault)
+        KeptFault::Recording(fault)
     }
 }
 

@@ -3,19 +3,19 @@
 use crate::fault::KeptFault;
 use smb_journal::{JournalFault, Lines};
 use std::fs::{File, OpenOptions, TryLockError};
-use std::io::{ErrorKind, Read};
+use std::io::ErrorKind;
 use std::os::unix::fs::OpenOptionsExt;
 use std::path::Path;
 use std::{fs, io};
 
 /// What a failed opening or read of a file is.
 pub(crate) fn fault_of_read(error: io::Error) -> KeptFault {
-    KeptFault::Journal(JournalFault::of_read(error))
+    KeptFault::Recording(JournalFault::of_read(error))
 }
 
 /// What a failed making or write of a file is.
 pub(crate) fn fault_of_write(error: io::Error) -> KeptFault {
-    KeptFault::Journal(JournalFault::of_write(error))
+    KeptFault::Recording(JournalFault::of_write(error))
 }
 
 /// Opens a recording to read it.
@@ -38,7 +38,7 @@ pub(crate) fn make_file(rt: &HostRuntime, path: &str) -> Result<File, KeptFault>
 pub(crate) fn lock(file: File) -> Result<File, KeptFault> {
     match file.try_lock() {
         Ok(()) => Ok(file),
-        Err(TryLockError::WouldBlock) => Err(KeptFault::Journal(JournalFault::InUse)),
+        Err(TryLockError::WouldBlock) => Err(KeptFault::Recording(JournalFault::InUse)),
         Err(TryLockError::Error(error)) => Err(fault_of_write(error)),
     }
 }
@@ -64,26 +64,31 @@ pub(crate) fn settle_name(rt: &HostRuntime, path: &str) -> Result<(), KeptFault>
     folder.sync_all().map_err(fault_of_write)
 }
 
-/// Gives a file another name.
-pub(crate) fn rename(rt: &HostRuntime, old: &str, new: &str) -> Result<(), KeptFault> {
-    fs::rename(rt, old, new).map_err(fault_of_write)
+/// Gives a file another name, which is written to the disk where it is to be.
+pub(crate) fn give_name(
+    rt: &HostRuntime,
+    old: &str,
+    new: &str,
+    settles: bool,
+) -> Result<(), KeptFault> {
+    fs::rename(rt, old, new).map_err(fault_of_write)?;
+    if settles {
+        settle_name(rt, new)?;
+    }
+    Ok(())
 }
 
-/// Takes off what is behind so many bytes of a file.
+/// Takes away a file that a start left that was ended, where it is there. One that a program has to itself stays.
+pub(crate) fn remove_left(rt: &HostRuntime, path: &str) -> Result<(), KeptFault> {
+    let Some(left) = open_journal(rt, path)? else {
+        return Ok(());
+    };
+    let removed = fs::remove_file(rt, path).map_err(fault_of_write);
+    drop(left);
+    removed
+}
+
+/// Cuts a file to this many bytes.
 pub(crate) fn cut(file: &File, end: u64) -> Result<(), KeptFault> {
     file.set_len(end).map_err(fault_of_write)
-}
-
-/// The first bytes of a file, at most so many.
-pub(crate) fn first_bytes(
-    rt: &HostRuntime,
-    path: &str,
-    count: usize,
-) -> Result<Vec<u8>, KeptFault> {
-    let file = fs::open(rt, path).map_err(fault_of_read)?;
-    let mut bytes = Vec::new(rt.alloc());
-    match file.take(count as u64).read_to_end(&mut bytes) {
-        Ok(_) => Ok(bytes),
-        Err(error) => Err(fault_of_read(error)),
-    }
 }

@@ -1,13 +1,14 @@
-//! A share that is kept in files: recorded, gone on with, written anew, and taken out of what was recorded.
+//! A share that is kept in a file, a journal or a recording, and what is made of such a file.
 //!
 //! ```text
-//!    Keeping       a file is opened or made; what it says is performed on a new share; its recorder goes on behind it
-//!    perform       ... line by line; who [`Hears`] it hears each event with its answers
-//!    put_in        the program's own client puts the files of a folder into a new share
-//!    extract       ... or takes those that a recording leaves out into a new folder
-//!    write_journal ... or copies them into a new share, of which all is recorded
-//!    write_anew    a journal replaced by one that makes the same files
-//!    keep_changes  a journal of changes is opened or made; the files that it keeps are a tree that goes on there
+//!    keep_changes   a journal is opened or made; the files that it keeps are a tree that goes on there
+//!    KeptPeers      ... nothing is sent while what changed is not kept
+//!    journal_files  the files of a journal, where no share goes on with it
+//!    Keeping        a new file is made, in which a share is recorded
+//!    perform        a recording line by line on a new share; who [`Hears`] it hears each event with its answers
+//!    put_folder_in  the program's own client puts the files of a folder into a new share
+//!    extract        the files that a journal or a recording leaves, as a new folder
+//!    compact        ... as a new journal
 //! ```
 //!
 //! A caller makes the share and lends it to these calls: [`recorded_share`] makes one whose authenticator gives the
@@ -17,15 +18,17 @@
 //! the system does with files is trusted.
 #![tactic(auto)]
 
-mod anew;
-mod changes;
+mod compacted;
+mod extracted;
 mod fault;
 mod files;
+mod first_line;
+mod journal;
+mod journal_left;
 mod keeping;
 mod kept_peers;
+mod kind;
 mod leaving;
-mod left;
-mod length;
 mod own_client;
 mod performed;
 mod performing;
@@ -34,16 +37,17 @@ mod putting;
 mod share;
 mod steps;
 
-pub use anew::{write_anew, write_journal};
-pub use changes::{ChangesFault, ChangesWords, Kept, keep_changes};
+pub use compacted::{Compacted, compact};
+pub use extracted::{Extracted, extract};
 pub use fault::KeptFault;
-pub use keeping::{Begun, KeepWords, Keeping};
+pub use journal::{FileFault, JournalWords, Kept, keep_changes};
+pub use journal_left::{JournalFiles, journal_files};
+pub use keeping::{KeepWords, Keeping};
 pub use kept_peers::KeptPeers;
-pub use left::{Extracted, extract};
-pub use length::is_long;
+pub use kind::Kind;
 pub use own_client::{own_answer, own_answers, path_of};
-pub use performed::{Deaf, Hears, Performed, perform};
+pub use performed::{Deaf, Hears, perform};
 pub use performing::{perform_file, read_recording};
-pub use putting::{OwnLine, put_folder_in};
+pub use putting::{OwnLine, OwnRecord, put_folder_in};
 pub use share::{RecordedShare, nobody, recorded_login, recorded_share, share_of};
 pub use steps::Steps;

@@ -14,6 +14,17 @@ const USER: &[u8] = b"smbshare";
 /// What it asks with, where a recorded answer lets it in, whatever it asks with.
 pub(crate) const TOKEN: &[u8] = b"smbshare";
 
+/// How it comes into a share.
+#[derive(Drop)]
+pub(crate) struct OwnClient {
+    /// The share's path, as a client names it.
+    pub(crate) path: String,
+    /// When it asks, in units of 100 ns since 1601.
+    pub(crate) moment: u64,
+    /// Its token, which nobody else knows.
+    pub(crate) token: [u8; 16],
+}
+
 /// The answer that lets the program's own client in.
 pub fn own_answer(alloc: Global) -> Result<Answer, AllocError> {
     Ok(Answer::Accept {
@@ -29,7 +40,7 @@ pub fn own_answer(alloc: Global) -> Result<Answer, AllocError> {
 fn own_given(alloc: Global) -> Result<GivenAnswer, KeptFault> {
     match GivenAnswer::of(own_answer(alloc)?) {
         Some(given) => Ok(given),
-        None => Err(KeptFault::Journal(JournalFault::NoMemory)),
+        None => Err(KeptFault::Recording(JournalFault::NoMemory)),
     }
 }
 

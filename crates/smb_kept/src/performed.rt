@@ -14,8 +14,8 @@ pub trait Hears: Observer {
     /// Takes an event that the share performed, and what it answered to it.
     fn hear(&mut self, event: &Event, answers: &[Answer]) -> Result<(), JournalFault>;
 
-    /// Takes note that a connection ended where memory had run out for it: the first requests of its last piece were performed, and not
-    /// answered.
+    /// Takes note that a connection ended where memory had run out for it: the first requests of its last piece were
+    /// performed, and not answered.
     fn cut_short(&mut self, _connection: u64) {}
 }
 
@@ -47,14 +47,11 @@ impl Hears for Deaf {
     }
 }
 
-/// What was performed of a recording.
+/// What is performed of a recording.
 #[derive(Drop)]
-pub struct Performed {
-    /// How many connections were opened.
-    pub opened: u64,
-    /// Those whose end is not recorded.
-    pub open: Vec<u64>,
-    /// The piece that is read, and its line: what it is answered by the authenticator, and whether memory ran out, comes behind.
+struct Performing {
+    /// The piece that is read, and its line: what it is answered by the authenticator, and whether memory ran out,
+    /// comes behind.
     piece: Option<(Event, u64)>,
     answers: Vec<Answer>,
 }
@@ -67,33 +64,13 @@ fn fault_at(line: u64, fault: RunFault) -> JournalFault {
     }
 }
 
-impl Performed {
+impl Performing {
     /// Nothing.
     fn new(alloc: Global) -> Self {
-        Performed {
-            opened: 0,
-            open: Vec::new(alloc),
+        Performing {
             piece: None,
             answers: Vec::new(alloc),
         }
-    }
-
-    /// Notes an opening or an end.
-    fn note(&mut self, event: &Event) -> Result<(), JournalFault> {
-        match event {
-            Event::Opened(connection) => {
-                self.opened = *connection;
-                self.open.push(*connection)?;
-            }
-            Event::Ended(connection) => {
-                let place = self.open.iter().position(|open| *open == *connection);
-                if let Some(place) = place {
-                    let _ = self.open.remove(place);
-                }
-            }
-            Event::Bytes { .. } => {}
-        }
-        Ok(())
     }
 
     /// Performs an event of a line.
@@ -104,7 +81,6 @@ impl Performed {
         line: u64,
         heard: &mut H,
     ) -> Result<(), JournalFault> {
-        self.note(&event)?;
         self.answers.clear();
         let ran = share.run_observed(slice::from_ref(&event), &mut self.answers, heard);
         if let Err(fault) = ran {
@@ -177,7 +153,8 @@ impl Performed {
     }
 }
 
-/// Performs all lines of a recording on a new share, whose authenticator gives the recorded answers. It is read by parts.
+/// Performs all lines of a recording on a new share, whose authenticator gives the recorded answers. It is read by
+/// parts.
 ///
 /// # Errors
 /// Those of [`Lines::next_line`]; [`JournalFault::BadEvent`] where an event can't happen, with its line; and
@@ -187,15 +164,14 @@ pub fn perform<A: Authenticator + Drop, T: Tree + Drop, O: Opens + Drop, R: Read
     share: &mut Share<A, T, O>,
     lines: &mut Lines<R>,
     heard: &mut H,
-) -> Result<Performed, JournalFault> {
-    let mut performed = Performed::new(alloc);
+) -> Result<(), JournalFault> {
+    let mut performing = Performing::new(alloc);
     for _ in 0..u64::MAX {
         let Some(read) = lines.next_line()? else {
             break;
         };
         let line = lines.number();
-        performed.take(share, read, line, heard)?;
+        performing.take(share, read, line, heard)?;
     }
-    performed.happen_piece(share, heard)?;
-    Ok(performed)
+    performing.happen_piece(share, heard)
 }

@@ -2,20 +2,10 @@
 
 use crate::fault::KeptFault;
 use crate::files::open_lines;
-use crate::performed::{Hears, Performed, perform};
+use crate::performed::{Hears, perform};
 use smb_engine::{Authenticator, Opens, Share, Tree};
 use smb_journal::{GivenAnswer, Header, given_answers};
 use std::collections::VecDeque;
-
-/// What was performed of a recording, how many bytes its whole lines take, the check of the last of them, and how many bytes of a
-/// cut last line are behind it.
-#[derive(Drop)]
-pub struct Done {
-    pub(crate) performed: Performed,
-    pub(crate) end: u64,
-    pub(crate) check: u64,
-    pub(crate) left_out: u64,
-}
 
 /// The first line of a recording, and the answers of the authenticator in it. All of it is read, and nothing is performed.
 pub fn read_recording(
@@ -28,20 +18,15 @@ pub fn read_recording(
     Ok((header, given))
 }
 
-/// Performs all of a recording on a new share.
+/// Performs all of a recording on a new share, and returns how many bytes of a cut last line are left out.
 pub fn perform_file<A: Authenticator + Drop, T: Tree + Drop, O: Opens + Drop, H: Hears>(
     rt: &HostRuntime,
     path: &str,
     share: &mut Share<A, T, O>,
     heard: &mut H,
-) -> Result<Done, KeptFault> {
+) -> Result<u64, KeptFault> {
     let mut lines = open_lines(rt, path)?;
     let _ = lines.header()?;
-    let performed = perform(rt.alloc(), share, &mut lines, heard)?;
-    Ok(Done {
-        performed,
-        end: lines.offset(),
-        check: lines.check(),
-        left_out: lines.left_out(),
-    })
+    perform(rt.alloc(), share, &mut lines, heard)?;
+    Ok(lines.left_out())
 }

@@ -38,7 +38,7 @@ pub fn recorded_login<'m, A: Authenticator + Drop>(
 ) -> Result<RecordedLogin<'m, A>, KeptFault> {
     match RecordedLogin::new(hello, requires_signing, given, behind, mailbox) {
         Some(login) => Ok(login),
-        None => Err(KeptFault::Journal(JournalFault::NoRecording)),
+        None => Err(KeptFault::Recording(JournalFault::NoRecording)),
     }
 }
 

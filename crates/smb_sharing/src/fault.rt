@@ -14,8 +14,8 @@ pub enum SharingRule {
     NotASize,
     #[error("more than a share can have: say at most 64TiB")]
     TooGreat,
-    /// The files of the folder take so many bytes.
-    #[error("too little: the folder's files take {0} bytes; say more, or leave --capacity out")]
+    /// The files of the folder or the journal take so many bytes.
+    #[error("too little: the files take {0} bytes; say more, or leave --capacity out")]
     TooLittle(u64),
     #[error("the share can't have the folder's name, but 1 to 80 characters from ! to ~, none of them one of \" * / : < > ? \\ |; name it by --name NAME")]
     FolderName,
@@ -45,11 +45,6 @@ pub enum SharingRule {
     PasswordsUnread(Reason),
     #[error("cannot be read: {0}; name a folder that you may read")]
     FolderUnread(Reason),
-    #[error("the journal is of a share of another name: leave --name out, or name another journal")]
-    OtherName,
-    /// The share of the journal has so many bytes.
-    #[error("the journal's share has room for {0} bytes, and keeps it: leave --capacity out, or name another journal")]
-    OtherCapacity(u64),
 }
 
 /// What an account's name is to be.

@@ -18,11 +18,12 @@ const LONGEST_LABEL: usize = 32;
 
 /// What a share begins with.
 #[derive(Drop)]
-pub enum Found {
-    /// The files of the folder, under this name.
-    Folder(String, Measured),
-    /// Those that a journal has, of a share of this configuration and these limits.
-    Journal(Limits, Config),
+pub struct Found {
+    /// The share's name.
+    pub name: String,
+    pub measured: Measured,
+    /// Whether they are the files of a journal that goes on, and not those of the folder.
+    pub goes_on: bool,
 }
 
 /// What is to be served: the configuration that `serve` takes, and what is said of it.
@@ -39,15 +40,15 @@ fn label_of(alloc: Global, name: &str) -> Result<String, AllocError> {
     name.chars().take(LONGEST_LABEL).collect(alloc)
 }
 
-/// The configuration of a new share with the files of a folder, and its limits.
-fn new_share(
+/// The configuration of a share with the files that were found, and its limits.
+fn share_of(
     alloc: Global,
     words: SharingWords<'_>,
     capacity: Option<u64>,
-    share: String,
-    measured: Measured,
+    found: Found,
     guid: [u8; 16],
 ) -> Result<(Limits, Config), SharingFault> {
+    let Found { name, measured, .. } = found;
     let room = capacity_for(measured, capacity);
     if room < measured.bytes {
         let text = words.capacity.unwrap_or("");
@@ -55,8 +56,8 @@ fn new_share(
         return Err(SharingFault::of_word(alloc, "--capacity", text, rule));
     }
     let config = Config {
-        label: label_of(alloc, &share)?,
-        share,
+        label: label_of(alloc, &name)?,
+        share: name,
         guid,
         capacity: room,
         created: CREATED,
@@ -64,33 +65,10 @@ fn new_share(
     Ok((limits_for(measured, room, capacity), config))
 }
 
-/// Sees that the words do not ask for another share than that of a journal.
-fn check_like(
-    alloc: Global,
-    words: SharingWords<'_>,
-    capacity: Option<u64>,
-    config: &Config,
-) -> Result<(), SharingFault> {
-    if let Some(name) = words.name
-        && name != config.share.as_str()
-    {
-        return Err(SharingFault::of_word(alloc, "--name", name, SharingRule::OtherName));
-    }
-    if let Some(text) = words.capacity
-        && capacity != Some(config.capacity)
-    {
-        let rule = SharingRule::OtherCapacity(config.capacity);
-        return Err(SharingFault::of_word(alloc, "--capacity", text, rule));
-    }
-    Ok(())
-}
-
 impl Plan {
-    /// What is to be served by the words. A new share has the GUID that is given; one of a journal goes on as it is,
-    /// and the words may ask for no other name and capacity.
+    /// What is to be served by the words: a share with the files that were found, and this GUID.
     ///
-    /// [`SharingRule::TooLittle`], and of a journal [`SharingRule::OtherName`] and [`SharingRule::OtherCapacity`], or
-    /// want of memory.
+    /// [`SharingRule::TooLittle`], or want of memory.
     pub fn new(
         alloc: Global,
         words: SharingWords<'_>,
@@ -99,16 +77,8 @@ impl Plan {
         guid: [u8; 16],
     ) -> Result<Self, SharingFault> {
         let (capacity, guest) = (wanted.capacity, wanted.guest);
-        let (measured, limits, config) = match found {
-            Found::Folder(name, measured) => {
-                let (limits, config) = new_share(alloc, words, capacity, name, measured, guid)?;
-                (Some(measured), limits, config)
-            }
-            Found::Journal(limits, config) => {
-                check_like(alloc, words, capacity, &config)?;
-                (None, limits, config)
-            }
-        };
+        let measured = (!found.goes_on).then_some(found.measured);
+        let (limits, config) = share_of(alloc, words, capacity, found, guid)?;
         Ok(Plan {
             config: configuration_text(alloc, limits, &config, guest)?,
             said: Said::new(alloc, words, &config, measured, guest)?,
