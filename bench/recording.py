@@ -2,12 +2,11 @@
 
 Each kind of keeping, and then each level of a log, serves one client that sends a request, waits for its answer, and so
 on, ROUNDS times in turn; each figure is the median. Then a share with so many MiB of files is begun again from its
-journal: from the start of the program until it listens; and the journal is replayed. The files lie in the folder that the
+journal: from the start of the program until it listens. The files lie in the folder that the
 system gives for temporary ones, on its disk.
 """
 import os
 import statistics
-import subprocess
 import sys
 import tempfile
 import time
@@ -20,8 +19,7 @@ from tests.smb.program import Program
 ROUNDS = 5
 PIECE = os.urandom(LONGEST_PIECE)
 KEPT = (('nothing', ()), ('--record', ('--record',)), ('--journal', ('--journal',)),
-        ('--journal --sync', ('--sync', '--journal')), ('--changes', ('--changes',)),
-        ('--changes --sync', ('--sync', '--changes')))
+        ('--journal --sync', ('--sync', '--journal')))
 LOGGED = (('no log', ()), ('--log-level sessions', ('--log-level', 'sessions', '--log')),
           ('--log-level refusals', ('--log-level', 'refusals', '--log')),
           ('--log-level requests', ('--log-level', 'requests', '--log')))
@@ -77,30 +75,25 @@ def fill(client, megabytes):
         message_id = first + parts
 
 
-def kept_files(program, folder, kind, megabytes):
-    """A file in which a share with so many MiB is kept, and how long a start with it takes."""
-    path = os.path.join(folder, f'{kind[2:]}-{megabytes}')
-    with program.serve(kind, path) as share:
+def kept_files(program, folder, megabytes):
+    """A journal of a share with so many MiB, and how long a start with it takes."""
+    path = os.path.join(folder, f'journal-{megabytes}')
+    with program.serve('--journal', path) as share:
         client = share.client()
         if not client.negotiates() or any(client.asks(it) != 0 for it in (session_setup(1), tree_connect(2, 1))):
             raise AssertionError('a client is not served')
         fill(client, megabytes)
     start = time.perf_counter()
-    with program.serve(kind, path):
+    with program.serve('--journal', path):
         return path, time.perf_counter() - start
 
 
 def restarts(program, folder):
-    print('| MiB of files | MB of journal | seconds until it listens | seconds of `replay --recording` | MB of changes | seconds until it listens |')
-    print('|---|---|---|---|---|---|')
+    print('| MiB of files | MB of journal | seconds until it listens |')
+    print('|---|---|---|')
     for megabytes in (1, 16, 64):
-        path, took = kept_files(program, folder, '--journal', megabytes)
-        start = time.perf_counter()
-        subprocess.run([program.path, 'replay', '--recording', path], stdout=subprocess.DEVNULL, check=True)
-        again = time.perf_counter() - start
-        changes, beside = kept_files(program, folder, '--changes', megabytes)
-        print(f'| {megabytes} | {os.path.getsize(path) / 1e6:,.1f} | {took:.2f} | {again:.2f} '
-              f'| {os.path.getsize(changes) / 1e6:,.1f} | {beside:.2f} |', flush=True)
+        path, took = kept_files(program, folder, megabytes)
+        print(f'| {megabytes} | {os.path.getsize(path) / 1e6:,.1f} | {took:.2f} |', flush=True)
 
 
 def main(program):

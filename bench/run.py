@@ -40,7 +40,7 @@ SCRIPTS = [
      'whose time is in the figures. A client keeps so many requests in flight. A set-up is a connection that negotiates, sets up a session, '
      'connects to the share and ends. Of as many bytes in flight, long requests cost the program no more for each byte than short ones.'),
     ('recording.py', [], 'What is kept and what is logged, over TCP. One client waits for each answer; medians of five. A record is text, in '
-     'hex; a journal has the bytes as they are, and a check. Without a log nothing is decoded. The last table is of a share that is begun '
+     'hex; a journal has what changes of the files. Without a log nothing is decoded. The last table is of a share that is begun '
      'again from its journal.'),
     ('requests.py', [], 'By how many requests smbclient puts and gets a file of 16 MiB, in dialect 2.1; each time 7 or 8 of them are other '
      'requests than READs and WRITEs.'),

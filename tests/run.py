@@ -23,10 +23,10 @@ from tests.trials import passed_of
 UNPROVED = os.path.join(TOP, 'out', 'unproved', 'smbshare')
 # In the order in which they are told; those that run side by side, of which the longest begin first; and what runs
 # alone, since it measures memory and needs the processors.
-SUBJECTS = ('serving', 'signing', 'load', 'hostile', 'memory', 'words', 'keeping', 'logging', 'captures', 'conform',
-            'packages')
-LONGEST_FIRST = ('keeping', 'hostile', 'serving', 'signing', 'memory', 'words', 'conform', 'logging', 'packages',
-                 'captures')
+SUBJECTS = ('serving', 'status', 'signing', 'load', 'hostile', 'memory', 'words', 'keeping', 'logging', 'captures',
+            'conform', 'packages')
+LONGEST_FIRST = ('keeping', 'hostile', 'serving', 'status', 'signing', 'memory', 'words', 'conform', 'logging',
+                 'packages', 'captures')
 ALONE = ('load',)
 
 

@@ -38,7 +38,8 @@ def ran(program, words, given=b'', **others):
 def words_have_their_status(program):
     """Words that are taken by no command, and those that ask for help."""
     wrong = (['replay', '--config'], ['replay', '--other'], ['replay', 'more'], ['show', 'more'], ['--explain'],
-             ['other'], ['--other'], ['compact', 'more'], ['extract'], ['serve', '--listen', '127.0.0.1:0', '--sync'])
+             ['other'], ['--other'], ['compact', 'more'], ['extract'], ['serve', '--listen', '127.0.0.1:0', '--sync'],
+             ['check-journal'], ['check-journal', 'a', 'b'])
     taken = ran(program, ['replay', '--config', 'no such file', '--explain'])
     return (all(ran(program, words)[0] == 2 for words in wrong)
             and ran(program, ['--help'])[0] == ran(program, ['--version'])[0] == 0

@@ -159,24 +159,39 @@ def passwords_that_others_may_read_are_said(program):
 
 
 def a_journal_goes_on(program):
-    """A later start begins with what was changed, and does not look at the folder; it takes no other name and room."""
+    """A later start begins with what was changed, and does not look at the folder, under another name and with another
+    room, too; but not with less than the files take."""
     with tempfile.TemporaryDirectory() as folder:
         at, journal = made(folder), os.path.join(folder, 'journal')
-        words = (at, '--journal', journal, '--capacity', '100MiB')
-        with Shared(program, *words) as share:
+        words, found = (at, '--journal', journal), []
+        with Shared(program, *words, '--capacity', '100MiB') as share:
             client = share.comes_in('docs', 'somebody')
             kept = client and client.bytes_of('a.txt') == TEXT and client.writes('new.txt', b'new')
         os.rename(at, at + '.away')
-        with Shared(program, *words) as share:
-            client = share.comes_in('docs', 'somebody')
-            found = [client and client.bytes_of(name) for name in ('a.txt', 'new.txt')]
-        said = (f'share docs: the files of the journal {journal}, which goes on; {at} is not taken again\n',
-                f'changes are kept in {journal}, and not in {at}: start again with the same --journal\n')
-        wrong = [differs(refused(program, at, '--journal', journal, *more), wanted, more) for more, wanted in (
-            (('--name', 'other'), '--name other: the journal is of a share of another name: leave --name out, or name another journal'),
-            (('--capacity', '1GiB'), "--capacity 1GiB: the journal's share has room for 104857600 bytes, and keeps it: leave "
-             '--capacity out, or name another journal'))]
-        return kept and found == [TEXT, b'new'] and all(it in share.said for it in said) and not any(wrong)
+        for name, more in (('docs', ()), ('other', ('--name', 'other', '--capacity', '1MiB'))):
+            with Shared(program, *words, *more) as share:
+                client = share.comes_in(name, 'somebody')
+                found.append([client and client.bytes_of(it) for it in ('a.txt', 'new.txt')])
+                said = (f'share {name}: the files of the journal {journal}, which goes on; {at} is not taken again\n',
+                        f'changes are kept in {journal}, and not in {at}: start again with the same --journal\n')
+                found.append([it in share.said for it in said])
+        little = '--capacity 8KiB: too little: the files take 16384 bytes; say more, or leave --capacity out'
+        wrong = differs(refused(program, *words, '--capacity', '8KiB'), little, 'less room')
+        return kept and not differs(found, [[TEXT, b'new'], [True] * 2] * 2, 'what goes on') and not wrong
+
+
+def an_empty_file_takes_the_folder(program):
+    """As one does that is not there: a later start goes on with it, and does not look at the folder."""
+    with tempfile.TemporaryDirectory() as folder:
+        at, journal, found = made(folder), put(os.path.join(folder, 'journal'), ''), []
+        for away in (f'{at}.away', f'{at}.further'):
+            with Shared(program, at, '--name', 'docs', '--journal', journal) as share:
+                client = share.comes_in('docs', 'somebody')
+                found.append((client and client.bytes_of('a.txt'), sorted(os.listdir(folder))))
+            if os.path.exists(at):
+                os.rename(at, away)
+        wanted = [(TEXT, ['docs', 'journal']), (TEXT, ['docs.away', 'journal'])]
+        return not differs(found, wanted, 'what is there')
 
 
 def refused(program, *words, given=b''):
@@ -194,7 +209,7 @@ def sizes_are_refused(program):
         at = made(folder)
         texts = [(it, NOT_A_SIZE) for it in ('10G', '10GB', '10gib', '10 GiB', '0', '0GiB', '-1', '+1', '1e9', '1.5GiB', 'GiB', '', 'ten')]
         texts += [(it, 'more than a share can have: say at most 64TiB') for it in ('65TiB', '70368744177665', '9' * 30, '99999999TiB')]
-        texts += [('8KiB', "too little: the folder's files take 12288 bytes; say more, or leave --capacity out")]
+        texts += [('8KiB', 'too little: the files take 12288 bytes; say more, or leave --capacity out')]
         wrong = [differs(refused(program, at, f'--capacity={text}'), f'--capacity {text}: {rule}', text) for text, rule in texts]
         return not any([*wrong, differs(refused(program, at, '--capacity', '-1'), f'--capacity -1: {NOT_A_SIZE}', 'a sign')])
 
@@ -338,13 +353,12 @@ def more_than_the_memory_is_said(program):
 def journals_are_refused(program):
     """A file that is no journal, and a record."""
     with tempfile.TemporaryDirectory() as folder:
-        at, empty, record = made(folder), put(os.path.join(folder, 'empty'), ''), os.path.join(folder, 'record')
+        at, record = made(folder), os.path.join(folder, 'record')
         program.ran('serve', '--turns', '1', *FREE, '--record', record)
-        no_recording = 'no recording: its first line is not that of one; name a file that --journal or --record made'
-        cases = ((empty, no_recording), (os.path.join(at, 'a.txt'), no_recording),
-                 (record, 'a record, and no journal: name another file, or make a journal of it by `compact`'))
-        return not any([differs(program.ran('share', *FREE, at, '--journal', name, given=b''), (1, b'', f'journal: {rule}\n'), name)
-                        for name, rule in cases])
+        rule = 'no journal: its first line is not that of one; name a file that --journal made'
+        return not any([differs(program.ran('share', *FREE, at, '--journal', name, given=b''),
+                                (1, b'', f'journal: {name}: {rule}\n'), name)
+                        for name in (os.path.join(at, 'a.txt'), record)])
 
 
 def a_password_is_no_word(program):
@@ -397,7 +411,7 @@ def sharing_ends_without_memory(program):
 
 
 TESTS = (a_folder_is_shared_with_guests, accounts_come_in_by_their_passwords, passwords_that_others_may_read_are_said,
-         a_journal_goes_on, sizes_are_refused, sizes_are_taken, names_are_refused,
+         a_journal_goes_on, an_empty_file_takes_the_folder, sizes_are_refused, sizes_are_taken, names_are_refused,
          a_folder_without_a_last_name_has_that_of_its_path, accounts_are_refused, passwords_are_refused, addresses_are_refused,
          folders_are_refused, limits_are_those_of_the_folder, more_than_the_memory_is_said, journals_are_refused, a_password_is_no_word,
          several_addresses_are_listened_at)

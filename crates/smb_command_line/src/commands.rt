@@ -65,11 +65,17 @@ const EXTRACT_HELP: &str = "Example:
 
 /// The end of the help of `compact`.
 const COMPACT_HELP: &str =
-    "NEW makes the same files, with their names, bytes, times and attributes, by as few requests as that takes.
-`serve --journal` does this by itself, where a journal is over four times as long as what its files ask for.
+    "NEW has the same files, with their names, bytes, times, attributes and numbers, and nothing of what was before.
+A journal that an older program made is one of events: this makes a journal of its files, which `serve` takes.
 
 Example:
   smbshare compact < data.journal > shorter.journal";
+
+/// The end of the help of `check-journal`.
+const CHECK_JOURNAL_HELP: &str = "Nothing is written to it: it can be checked while it is served.
+
+Example:
+  smbshare check-journal data.journal";
 
 /// The end of the help of `show`.
 const SHOW_HELP: &str = "No share is made, so nothing is built in.
@@ -196,15 +202,6 @@ const JOURNAL: OptionRow = OptionRow {
     takes: Takes::Text("FILE"),
     needed: Needed::Never,
     bars: &["record"],
-    help: "Keeps all that happens in FILE, before it is answered, and begins with what FILE holds where it exists",
-};
-
-/// A journal of changes.
-const CHANGES: OptionRow = OptionRow {
-    name: "changes",
-    takes: Takes::Text("FILE"),
-    needed: Needed::Never,
-    bars: &["journal", "record", "from"],
     help: "Keeps the share's files in FILE: what changes, before it is answered, and nothing else; begins with the files that FILE keeps where it exists",
 };
 
@@ -253,13 +250,40 @@ const LOG_MUST: OptionRow = OptionRow {
     help: "Ends the server where a line of the log can't be written",
 };
 
+/// A status.
+const STATUS: OptionRow = OptionRow {
+    name: "status",
+    takes: Takes::Text("ADDR"),
+    needed: Needed::Never,
+    bars: &[],
+    help: "Answers at this address and port what is going on: a page, /status.json, and /metrics for Prometheus",
+};
+
+/// A status for others.
+const STATUS_ANYWHERE: OptionRow = OptionRow {
+    name: "status-anywhere",
+    takes: Takes::Nothing,
+    needed: Needed::Never,
+    bars: &[],
+    help: "Lets the address of --status be one that other machines reach",
+};
+
+/// A status with names.
+const STATUS_NAMES: OptionRow = OptionRow {
+    name: "status-names",
+    takes: Takes::Nothing,
+    needed: Needed::Never,
+    bars: &[],
+    help: "Shows the names of open files in the status",
+};
+
 /// A folder to begin with.
 const FROM: OptionRow = OptionRow {
     name: "from",
     takes: Takes::Text("FOLDER"),
     needed: Needed::Never,
     bars: &[],
-    help: "Begins a new share with the files and folders of FOLDER",
+    help: "Begins a new share with the files and folders of FOLDER; not where the file of --journal exists",
 };
 
 /// A clock.
@@ -277,7 +301,7 @@ const RECORDING: OptionRow = OptionRow {
     takes: Takes::Text("FILE"),
     needed: Needed::Never,
     bars: &["config", "login", "accounts", "signing", "seed"],
-    help: "Replays what `serve` kept in FILE by --record or --journal, which says itself of what share it is",
+    help: "Replays what `serve` wrote into FILE by --record, which says itself of what share it is",
 };
 
 /// A folder to make.
@@ -287,6 +311,15 @@ const FOLDER: OptionRow = OptionRow {
     needed: Needed::Always,
     bars: &[],
     help: "The folder, which is made and must not exist",
+};
+
+/// A journal to look at.
+const JOURNAL_FILE: OptionRow = OptionRow {
+    name: "file",
+    takes: Takes::First("FILE"),
+    needed: Needed::Always,
+    bars: &[],
+    help: "The journal",
 };
 
 /// Fields.
@@ -348,12 +381,14 @@ const PERFORMING: &[CommandRow] = &[
             IDLE_NEW,
             OWED,
             JOURNAL,
-            CHANGES,
             RECORD,
             SYNC,
             LOG,
             LOG_LEVEL,
             LOG_MUST,
+            STATUS,
+            STATUS_ANYWHERE,
+            STATUS_NAMES,
             FROM,
             CLOCK,
         ],
@@ -387,9 +422,15 @@ const OF_FILES: &[CommandRow] = &[
     },
     CommandRow {
         name: "compact",
-        about: "Writes a journal that makes the files which a journal or record on standard input leaves",
+        about: "Writes a journal of the files that a journal or record on standard input leaves",
         examples: COMPACT_HELP,
         options: &[],
+    },
+    CommandRow {
+        name: "check-journal",
+        about: "Prints how much a journal keeps and how many of its bytes are whole",
+        examples: CHECK_JOURNAL_HELP,
+        options: &[JOURNAL_FILE],
     },
     CommandRow {
         name: "nt-hash",

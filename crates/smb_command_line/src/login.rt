@@ -66,9 +66,13 @@ pub fn login_of(command: Option<(&str, &ArgMatches<'_>)>) -> Result<Login, &'sta
         Some(("serve", words))
             if words.get_flag("sync")
                 && words.get_str("journal").is_none()
-                && words.get_str("changes").is_none()
                 && words.get_str("record").is_none() => {
-            Err("--sync is only taken with --journal, --changes or --record")
+            Err("--sync is only taken with --journal or --record")
+        }
+        Some(("serve", words))
+            if words.get_str("status").is_none()
+                && (words.get_flag("status-anywhere") || words.get_flag("status-names")) => {
+            Err("--status-anywhere and --status-names are only taken with --status")
         }
         Some(("serve", words)) if words.get_flag("log-must") && words.get_str("log").is_none() => {
             Err("--log-level and --log-must are only taken with --log")

@@ -82,7 +82,7 @@ const JOURNAL: OptionRow = OptionRow {
     takes: Takes::Text("FILE"),
     needed: Needed::Never,
     bars: &[],
-    help: "Keeps all that happens in FILE, before it is answered; where FILE exists, begins with its files and not with FOLDER",
+    help: "Keeps the share's files in FILE, before what changes them is answered; where FILE exists, begins with its files and not with FOLDER",
 };
 
 /// The command.

@@ -5,7 +5,7 @@ use smb_accounts_file::{AccountsFault, PasswordFault};
 use smb_config::ConfigFault;
 use smb_folder::FolderFault;
 use smb_journal::{Form, JournalFault};
-use smb_kept::{ChangesFault, KeptFault};
+use smb_kept::{FileFault, KeptFault};
 use smb_reason::{Reason, Shown};
 use smb_replay::{CommandFault, Detail, Given, ListenFault};
 use smb_sharing::SharingFault;
@@ -23,20 +23,24 @@ pub enum Fault {
     Listen(AddressFault),
     /// The share cannot listen at so many addresses.
     TooManyAddresses,
+    /// The address of a status is one that others reach.
+    StatusIsOpen,
     /// A list of who may connect is not taken.
     Hosts(HostsFault),
     /// A folder cannot be shared.
     Sharing(SharingFault),
     /// A file that a share is recorded in can't be read or written.
     Recording(RecordingFault),
-    /// A journal of changes can't be read, begun with or written.
-    Changes(ChangesFileFault),
+    /// A journal can't be read, begun with or written.
+    Journal(JournalFileFault),
     /// The file of a log can't be opened or made, for this reason.
     Log(Reason),
     /// A line of the log could not be written, which had to be. Standard error has its line already.
     LogFailed,
     /// Files could not be taken out of a recording. Standard error has a line for each already.
     NotExtracted,
+    /// A journal is not whole. Standard output has its line already.
+    NotWhole,
     /// A file of accounts is not changed or not listed.
     Accounts(AccountsFileFault),
     /// A password is not taken.
@@ -68,23 +72,22 @@ pub struct RecordingFault {
     fault: JournalFault,
 }
 
-/// Why a share can't be kept in a journal of changes.
+/// Why a share can't be kept in a journal.
 #[derive(Debug, Drop)]
-pub struct ChangesFileFault {
+pub struct JournalFileFault {
     /// The file's name, as it was given.
     path: String,
-    fault: ChangesFault,
+    fault: FileFault,
 }
 
 /// Writes what is printed of a share that cannot be kept, where there is memory and the configuration is none of its faults.
 fn report_kept<E: Write>(fault: &KeptFault, errors: &mut E) {
     let _ = match fault {
         KeptFault::NoMemory | KeptFault::BadConfig => Ok(()),
-        KeptFault::Journal(fault) => writeln!(errors, "journal: {fault}"),
+        KeptFault::Recording(fault) => writeln!(errors, "journal: {fault}"),
         KeptFault::RecordFailed(reason) => writeln!(errors, "record: cannot be written: {reason}"),
         KeptFault::Folder(fault) => writeln!(errors, "folder: {fault}"),
-        KeptFault::Copied(fault) => writeln!(errors, "journal: {fault}"),
-        KeptFault::Changes(fault) => writeln!(errors, "changes: {fault}"),
+        KeptFault::File(fault) => writeln!(errors, "journal: {fault}"),
     };
 }
 
@@ -92,9 +95,8 @@ fn report_kept<E: Write>(fault: &KeptFault, errors: &mut E) {
 fn command_fault_of(fault: &KeptFault) -> Option<CommandFault> {
     match fault {
         KeptFault::NoMemory
-        | KeptFault::Journal(JournalFault::NoMemory)
-        | KeptFault::Folder(FolderFault::NoMemory)
-        | KeptFault::Copied(FolderFault::NoMemory) => Some(CommandFault::NoMemory),
+        | KeptFault::Recording(JournalFault::NoMemory)
+        | KeptFault::Folder(FolderFault::NoMemory) => Some(CommandFault::NoMemory),
         KeptFault::BadConfig => Some(CommandFault::ConfigRefused(None)),
         _ => None,
     }
@@ -103,22 +105,24 @@ fn command_fault_of(fault: &KeptFault) -> Option<CommandFault> {
 /// What a share that cannot be kept is among the faults of recordings, where it is that their file can't be read or written.
 fn file_fault_of(fault: &KeptFault) -> Option<JournalFault> {
     match fault {
-        KeptFault::Journal(JournalFault::Unread(reason)) => Some(JournalFault::Unread(*reason)),
-        KeptFault::Journal(JournalFault::Unwritten(reason)) | KeptFault::RecordFailed(reason) => {
+        KeptFault::Recording(JournalFault::Unread(reason)) => Some(JournalFault::Unread(*reason)),
+        KeptFault::Recording(JournalFault::Exists) => Some(JournalFault::Exists),
+        KeptFault::Recording(JournalFault::InUse) => Some(JournalFault::InUse),
+        KeptFault::Recording(JournalFault::Unwritten(reason)) | KeptFault::RecordFailed(reason) => {
             Some(JournalFault::Unwritten(*reason))
         }
         _ => None,
     }
 }
 
-/// What a share that cannot be kept is among the faults of a journal of changes, where it is one.
-fn changes_fault_of(fault: &KeptFault) -> Option<ChangesFault> {
+/// What a share that cannot be kept is among the faults of a journal, where it is one.
+fn journal_fault_of(fault: &KeptFault) -> Option<FileFault> {
     match fault {
-        KeptFault::Changes(fault) => Some(*fault),
-        KeptFault::Journal(JournalFault::NoMemory) => None,
-        KeptFault::Journal(fault) => Some(ChangesFault::File(*fault)),
+        KeptFault::File(fault) => Some(*fault),
+        KeptFault::Recording(JournalFault::NoMemory) => None,
+        KeptFault::Recording(fault) => Some(FileFault::System(*fault)),
         KeptFault::RecordFailed(reason) => {
-            Some(ChangesFault::File(JournalFault::Unwritten(*reason)))
+            Some(FileFault::System(JournalFault::Unwritten(*reason)))
         }
         _ => None,
     }
@@ -152,11 +156,11 @@ impl AddressFault {
     }
 }
 
-impl ChangesFileFault {
+impl JournalFileFault {
     /// Writes what is printed of it, in one line.
     fn report<E: Write>(&self, errors: &mut E) {
         let path = Shown(self.path.as_bytes());
-        let _ = writeln!(errors, "changes: {path}: {}", self.fault);
+        let _ = writeln!(errors, "journal: {path}: {}", self.fault);
     }
 }
 
@@ -183,16 +187,16 @@ impl Fault {
         }
     }
 
-    /// The same fault with the name of its file, where it is that a share can't be kept in a journal of changes.
-    pub fn of_changes(self, alloc: Global, path: &str) -> Fault {
+    /// The same fault with the name of its file, where it is that a share can't be kept in a journal.
+    pub fn of_journal(self, alloc: Global, path: &str) -> Fault {
         let Fault::Kept(kept) = &self else {
             return self;
         };
-        let Some(fault) = changes_fault_of(kept) else {
+        let Some(fault) = journal_fault_of(kept) else {
             return self;
         };
         match String::from_str(alloc, path) {
-            Ok(path) => Fault::Changes(ChangesFileFault { path, fault }),
+            Ok(path) => Fault::Journal(JournalFileFault { path, fault }),
             Err(error) => Fault::from(error),
         }
     }
@@ -230,6 +234,13 @@ impl Fault {
                 );
                 1
             }
+            Fault::StatusIsOpen => {
+                let _ = writeln!(
+                    errors,
+                    "status: others can reach it: name a loopback address, as 127.0.0.1:9100, or say --status-anywhere"
+                );
+                1
+            }
             Fault::Hosts(fault) => {
                 fault.report(errors);
                 1
@@ -245,7 +256,7 @@ impl Fault {
                 fault.report(errors);
                 1
             }
-            Fault::Changes(fault) => {
+            Fault::Journal(fault) => {
                 fault.report(errors);
                 1
             }
@@ -253,7 +264,7 @@ impl Fault {
                 let _ = writeln!(errors, "log: cannot be written: {reason}");
                 1
             }
-            Fault::LogFailed | Fault::NotExtracted => 1,
+            Fault::LogFailed | Fault::NotExtracted | Fault::NotWhole => 1,
             Fault::Accounts(fault) => {
                 fault.report(errors);
                 1

@@ -140,14 +140,14 @@ pub fn say_cut(rt: &HostRuntime, form: Form, name: &str, left_out: u64) {
     };
 }
 
-/// Says on standard error that the end of a journal of changes was cut, where bytes of it are left out.
+/// Says on standard error that the end of a journal was cut, where bytes of it are left out.
 pub fn say_cut_batch(rt: &HostRuntime, name: &str, left_out: u64) {
     let name = Shown(name.as_bytes());
     let _ = match left_out {
         0 => Ok(()),
-        1 => eprintln!(rt; "changes: {name}: its last batch was cut: 1 byte is left out"),
+        1 => eprintln!(rt; "journal: {name}: its last batch was cut: 1 byte is left out"),
         _ => eprintln!(rt;
-            "changes: {name}: its last batch was cut: {left_out} bytes are left out"
+            "journal: {name}: its last batch was cut: {left_out} bytes are left out"
         ),
     };
 }

@@ -1,9 +1,8 @@
 //! The log of a served share, and what is known of its clients.
 
-use crate::clock::ServeClock;
 use smb_command_parts::{Fault, LogOutput, LogWords, log_of};
-use smb_log::{ConnectionFacts, Ending, KeptBack, KeptOut, Log, LoggedPeers};
-use smb_tcp::{GivenUp, Logins, PeerFacts, TcpPeers};
+use smb_log::{ConnectionFacts, Ending, KeptBack, KeptOut, Log};
+use smb_tcp::{GivenUp, Logins, PeerFacts};
 use smb_wire::limits::Limits;
 use std::alloc::{AllocError, Global};
 use std::cell::RefCell;
@@ -75,12 +74,3 @@ pub fn served_log<'a>(
 ) -> Result<ServedLog<'a>, Fault> {
     Ok(log_of(rt, words, limits, 0)?.map(RefCell::new))
 }
-
-/// TCP peers, of which all is logged where there is a log.
-pub type ServedPeers<'l, 'a> = LoggedPeers<
-    'l,
-    TcpPeers<'a, HostRuntime>,
-    TcpFacts,
-    ServeClock<'a>,
-    LogOutput<'a>,
->;

@@ -1,34 +1,42 @@
 //! The command `serve`: a share to clients over TCP.
 
 use crate::clock::ServeClock;
+use crate::filling::serve_folder;
 use crate::heard_login::HeardLogin;
-use crate::logging::{ServedLog, ServedPeers, TcpFacts, served_log};
-use crate::served_changes::serve_changes;
-use crate::served_record::{Serving, serve_folder, serve_recorded, serve_recorded_folder};
-use crate::shortening::write_anew_or_say;
+use crate::host_peers::HostPeers;
+use crate::logging::TcpFacts;
+use crate::served_journal::{say_not_read, serve_journal, serve_journal_folder};
+use crate::served_peers::ServedPeers;
+use crate::served_record::{serve_recorded, serve_recorded_folder};
+use crate::sight::Sight;
+use crate::status_door::{StatusWords, status_listener};
 use mio::net::TcpListener;
 use smb_command_line::{Login, NtlmWords, Texts};
 use smb_command_parts::{
     Entrance, Fault, LogWords, SERVED_SIGNING, hosts_of, ntlm_of, read_accounts, say_notices,
 };
 use smb_config::Configuration;
-use smb_engine::{Authenticator, HandleTable, NodeTree, Share};
-use smb_journal::LimitedConfig;
-use smb_kept::{ChangesWords, KeepWords, share_of};
-use smb_log::{LogObserver, LoggedPeers};
-use smb_peers::Usage;
+use smb_engine::{Authenticator, HandleTable, NodeTree, Opens, Share, Tree};
+use smb_journal::{Form, LimitedConfig};
+use smb_kept::{JournalWords, KeepWords, KeptFault, share_of};
+use smb_peers::{Clock, Peers, Stopping, Usage};
+use smb_reason::Reason;
 use smb_replay::{CommandFault, ListenFault, check_unsigned};
-use smb_serving::serve_until_observed;
+use smb_serving::serve_until_watched;
 use smb_sharing::Said;
 use smb_tcp::{MOST_LISTENERS, TcpPeers};
-use std::alloc::AllocError;
+use smb_wire::limits::Limits;
+use std::alloc::{AllocError, Global};
 use std::io::ErrorKind;
 use std::net::SocketAddr;
 use std::time::Duration;
 use std::{io, net};
 
-/// How many seconds a turn waits at most where no client has anything to say.
-const LONGEST_WAIT: u64 = 1;
+/// How many milliseconds a turn waits at most where no client has anything to say; and with a status, which is looked
+/// at behind each turn.
+const LONGEST_WAIT: u64 = 1_000;
+
+const LONGEST_WAIT_WITH_STATUS: u64 = 100;
 
 /// What the words of the command say.
 #[derive(Clone, Copy)]
@@ -51,24 +59,34 @@ pub struct ServeWords<'a> {
     pub most_owed: u64,
     /// Where the share is recorded, if it is.
     pub record: Option<KeepWords<'a>>,
-    /// Where its changes are kept, if they are.
-    pub changes: Option<ChangesWords<'a>>,
-    /// The folder whose files the share begins with.
+    /// Where its files are kept, if they are.
+    pub journal: Option<JournalWords<'a>>,
+    /// The folder whose files a new share begins with.
     pub from: Option<&'a str>,
     /// The moment of the first piece, for tests.
     pub clock: Option<u64>,
     /// Where the share is logged, if it is.
     pub log: Option<LogWords<'a>>,
+    /// Where its status is answered, if it is.
+    pub status: Option<StatusWords<'a>>,
     /// What is known of the connections of its clients.
     pub facts: &'a TcpFacts,
-    /// Whether a journal is written anew first that is much longer than its files ask for.
-    pub writes_anew: bool,
     /// What is said of a folder that is shared, once it listens.
     pub said: Option<&'a Said>,
 }
 
+/// What is served, and how.
+#[derive(Clone, Copy)]
+pub struct Serving<'a, 'w> {
+    pub rt: &'a HostRuntime,
+    pub words: &'w ServeWords<'a>,
+    pub entrance: Entrance,
+    /// The limits of the share.
+    pub limits: Limits,
+}
+
 /// Why a call of the system failed that makes a listener or its peers.
-fn fault_of(error: io::Error) -> CommandFault {
+pub fn fault_of(error: io::Error) -> CommandFault {
     match error.kind() {
         ErrorKind::OutOfMemory => CommandFault::NoMemory,
         kind => CommandFault::ListenFailed(ListenFault::from(kind)),
@@ -137,10 +155,10 @@ fn begin_to_listen(
 /// The peers of listeners, as many as there may be connections.
 fn waiting_peers<'a>(
     rt: &'a HostRuntime,
+    wait: Duration,
     connections: u64,
     listeners: Vec<net::TcpListener>,
 ) -> io::Result<TcpPeers<'a, HostRuntime>> {
-    let wait = Duration::from_secs(LONGEST_WAIT);
     let mut listeners = listeners.into_iter();
     let Some(first) = listeners.next() else {
         return Err(io::Error::from(ErrorKind::InvalidInput));
@@ -160,7 +178,11 @@ fn peers_of<'a>(
     connections: u64,
     listeners: Vec<net::TcpListener>,
 ) -> Result<TcpPeers<'a, HostRuntime>, Fault> {
-    let mut peers = match waiting_peers(rt, connections, listeners) {
+    let wait = Duration::from_millis(match words.status {
+        Some(_) => LONGEST_WAIT_WITH_STATUS,
+        None => LONGEST_WAIT,
+    });
+    let mut peers = match waiting_peers(rt, wait, connections, listeners) {
         Ok(peers) => peers,
         Err(error) => return Err(Fault::from(fault_of(error))),
     };
@@ -177,7 +199,7 @@ fn peers_of<'a>(
         peers = peers.with_unanswered_limit(Duration::from_secs(words.unanswered_seconds));
     }
     peers = peers.with_owed_limit(words.most_owed as usize);
-    if words.log.is_some() {
+    if words.log.is_some() || words.status.is_some() {
         peers = peers.with_facts(&words.facts.peers);
     }
     if words.clock.is_none() {
@@ -187,46 +209,63 @@ fn peers_of<'a>(
 }
 
 /// The peers of a share whose next connection has the number `next`, once it listens: all of them are logged, where
-/// there is a log.
+/// there is a log, and noted, where there is a status.
 pub fn listening_peers<'l, 'a: 'l>(
     rt: &'a HostRuntime,
     words: &ServeWords<'a>,
     entrance: Entrance,
-    log: &'l ServedLog<'a>,
+    sight: &'l Sight<'a>,
     next: u64,
 ) -> Result<ServedPeers<'l, 'a>, Fault> {
-    let stops = words.log.is_some_and(|log| log.must);
     let listeners = begin_to_listen(rt, words, entrance)?;
     let peers = peers_of(rt, words, entrance.connections, listeners)?;
-    let clock = ServeClock::new(rt, words.clock);
-    let mut logged = LoggedPeers::new(
-        rt.alloc(),
-        peers,
-        words.facts,
-        clock,
-        log.as_ref(),
-        stops,
-        next,
-    );
-    logged.note("started");
-    Ok(logged)
+    Ok(sight.peers(rt, words, HostPeers::new(peers), next))
 }
 
-/// What is served, once all is said of it that is logged.
-pub fn end_of(peers: ServedPeers<'_, '_>, usage: Usage) -> Result<Served, Fault> {
-    if peers.finish(usage) {
-        Ok(Served::Done)
-    } else {
-        Err(Fault::LogFailed)
+/// What came of serving, once all is said of it that is logged: also that its file, a journal or a record, can't be
+/// written, where it can't.
+pub fn end_of(
+    alloc: Global,
+    peers: ServedPeers<'_, '_>,
+    usage: Usage,
+    file: &str,
+    failure: Option<Reason>,
+) -> Result<(), Fault> {
+    let mut logged = peers.finish();
+    if let Some(reason) = failure
+        && let Ok(event) = format!(in alloc; "failed: the {file} can't be written: {reason}")
+    {
+        logged.note(event.as_str());
+    }
+    let is_logged = logged.finish(usage);
+    match failure {
+        Some(reason) => Err(Fault::Kept(KeptFault::RecordFailed(reason))),
+        None if is_logged => Ok(()),
+        None => Err(Fault::LogFailed),
     }
 }
 
-/// What came of serving a share.
-#[derive(Clone, Copy, Debug, PartialEq, Eq)]
-pub enum Served {
-    Done,
-    /// Its journal is to be written anew first.
-    NotYet,
+/// Serves a share to peers for as many turns as the words say. It is seen meanwhile as they ask for.
+pub fn serve_seen<
+    'a,
+    A: Authenticator + Drop,
+    T: Tree + Drop,
+    O: Opens + Drop,
+    P: Peers + Stopping,
+    C: Clock,
+>(
+    serving: Serving<'a, '_>,
+    share: &mut Share<A, T, O>,
+    peers: &mut P,
+    clock: &mut C,
+    sight: &Sight<'a>,
+) -> Result<(), Fault> {
+    let Serving { rt, words, .. } = serving;
+    let mut observer = sight.observer(rt, words);
+    let mut door = sight.door(rt, words)?;
+    let turns = words.turns;
+    let _ = serve_until_watched(share, peers, clock, turns, &mut observer, &mut door);
+    Ok(())
 }
 
 /// Serves a share whose next connection has the number `next`, for so many turns.
@@ -235,20 +274,18 @@ pub fn serve_peers<A: Authenticator + Drop>(
     share: &mut Share<A, NodeTree, HandleTable>,
     clock: &mut ServeClock<'_>,
     next: u64,
-) -> Result<Served, Fault> {
+) -> Result<(), Fault> {
     let Serving {
         rt,
         words,
         entrance,
-        limits,
+        ..
     } = serving;
-    let log = served_log(rt, words.log, limits)?;
-    match listening_peers(rt, words, entrance, &log, next) {
+    let sight = Sight::of(serving)?;
+    match listening_peers(rt, words, entrance, &sight, next) {
         Ok(mut peers) => {
-            let mut observer = LogObserver::new(log.as_ref(), ServeClock::new(rt, words.clock));
-            let turns = words.turns;
-            let _ = serve_until_observed(share, &mut peers, clock, turns, &mut observer);
-            end_of(peers, share.usage())
+            serve_seen(serving, share, &mut peers, clock, &sight)?;
+            end_of(rt.alloc(), peers, share.usage(), "", None)
         }
         Err(fault) => Err(fault),
     }
@@ -259,7 +296,7 @@ fn serve_new<A: Authenticator + Drop>(
     serving: Serving<'_, '_>,
     limited: LimitedConfig,
     authenticator: A,
-) -> Result<Served, Fault> {
+) -> Result<(), Fault> {
     let mut clock = ServeClock::new(serving.rt, serving.words.clock);
     match share_of(serving.rt.alloc(), limited, authenticator) {
         Ok(mut share) => serve_peers(serving, &mut share, &mut clock, 1),
@@ -274,7 +311,7 @@ fn serve_by<A: Authenticator + Drop>(
     entrance: Entrance,
     limited: LimitedConfig,
     authenticator: A,
-) -> Result<Served, Fault> {
+) -> Result<(), Fault> {
     let serving = Serving {
         rt,
         words,
@@ -283,17 +320,26 @@ fn serve_by<A: Authenticator + Drop>(
     };
     drop(hosts_of(rt.alloc(), words.hosts)?);
     drop(listen_all(rt, words.listen)?);
-    let authenticator = HeardLogin::new(authenticator, &words.facts.logins);
-    if let Some(changes) = words.changes {
-        return serve_changes(serving, changes, limited, authenticator);
+    if let Some(status) = words.status {
+        drop(status_listener(rt, status)?);
     }
-    match (words.record, words.from) {
-        (Some(record), Some(folder)) => {
+    let authenticator = HeardLogin::new(authenticator, &words.facts.logins);
+    match (words.journal, words.record, words.from) {
+        (Some(journal), _, Some(folder)) if !journal.has_bytes(rt)? => {
+            serve_journal_folder(serving, journal, folder, limited, authenticator)
+        }
+        (Some(journal), _, folder) => {
+            if let Some(folder) = folder {
+                say_not_read(rt, folder, journal);
+            }
+            serve_journal(serving, journal, limited, authenticator)
+        }
+        (None, Some(record), Some(folder)) => {
             serve_recorded_folder(serving, record, folder, limited, authenticator)
         }
-        (Some(record), None) => serve_recorded(serving, record, limited, authenticator),
-        (None, Some(folder)) => serve_folder(serving, folder, limited, authenticator),
-        (None, None) => serve_new(serving, limited, authenticator),
+        (None, Some(record), None) => serve_recorded(serving, record, limited, authenticator),
+        (None, None, Some(folder)) => serve_folder(serving, folder, limited, authenticator),
+        (None, None, None) => serve_new(serving, limited, authenticator),
     }
 }
 
@@ -303,7 +349,7 @@ fn serve_by_token(
     words: &ServeWords<'_>,
     entrance: Entrance,
     configuration: Configuration,
-) -> Result<Served, Fault> {
+) -> Result<(), Fault> {
     check_unsigned(&configuration)?;
     let Configuration {
         limits,
@@ -322,7 +368,7 @@ fn serve_by_ntlm(
     mut entrance: Entrance,
     configuration: Configuration,
     ntlm_words: NtlmWords,
-) -> Result<Served, Fault> {
+) -> Result<(), Fault> {
     let alloc = rt.alloc();
     let accounts = read_accounts(alloc, words.texts.accounts())?;
     entrance.accounts = accounts.list.len();
@@ -332,8 +378,8 @@ fn serve_by_ntlm(
     serve_by(rt, words, entrance, LimitedConfig { limits, config }, ntlm)
 }
 
-/// Serves a share of a configuration, for so many turns, where its journal is not to be written anew first.
-fn serve_configured(rt: &HostRuntime, words: &ServeWords<'_>) -> Result<Served, Fault> {
+/// Serves a share of a configuration, for so many turns.
+fn serve_configured(rt: &HostRuntime, words: &ServeWords<'_>) -> Result<(), Fault> {
     let configuration = Configuration::read(rt.alloc(), words.texts.config.as_str())?;
     let entrance = Entrance::of(&configuration, 0);
     match words.login {
@@ -342,28 +388,13 @@ fn serve_configured(rt: &HostRuntime, words: &ServeWords<'_>) -> Result<Served, 
     }
 }
 
-/// Serves a share of a configuration, once its journal was written anew where that is to be done.
-fn serve_shortened(rt: &HostRuntime, words: &ServeWords<'_>) -> Result<(), Fault> {
-    if serve_configured(rt, words)? == Served::Done {
-        return Ok(());
-    }
-    if let Some(record) = words.record {
-        write_anew_or_say(rt, record.path);
-    }
-    let words = ServeWords {
-        writes_anew: false,
-        ..*words
-    };
-    let _ = serve_configured(rt, &words)?;
-    Ok(())
-}
-
-/// Serves a share of a configuration, for so many turns. A journal that is much longer than its files ask for is
-/// written anew first; where that can't be done, standard error says why, and it is gone on with as it is.
+/// Serves a share of a configuration, for so many turns. A fault of the file that it is kept in has the file's name.
 pub fn serve_share(rt: &HostRuntime, words: &ServeWords<'_>) -> Result<(), Fault> {
-    match (serve_shortened(rt, words), words.record, words.changes) {
-        (Err(fault), Some(record), _) => Err(fault.of_file(rt.alloc(), record.form, record.path)),
-        (Err(fault), None, Some(changes)) => Err(fault.of_changes(rt.alloc(), changes.path)),
+    match (serve_configured(rt, words), words.journal, words.record) {
+        (Err(fault), Some(journal), _) => Err(fault.of_journal(rt.alloc(), journal.path)),
+        (Err(fault), None, Some(record)) => {
+            Err(fault.of_file(rt.alloc(), Form::Recording, record.path))
+        }
         (served, _, _) => served,
     }
 }

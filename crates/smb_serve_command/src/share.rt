@@ -4,8 +4,9 @@ use crate::logging::TcpFacts;
 use crate::serve::{ServeWords, serve_share};
 use smb_command_line::{Login, NtlmWords, Texts};
 use smb_command_parts::{Fault, hosts_of, memory, random_seed};
-use smb_journal::{Form, JournalFault, LimitedConfig, Lines};
-use smb_kept::{KeepWords, KeptFault};
+use smb_engine::Tree;
+use smb_journal_start::Space;
+use smb_kept::{JournalFiles, JournalWords, KeptFault, journal_files};
 use smb_ntlm::Account;
 use smb_reason::Shown;
 use smb_sharing::{
@@ -14,7 +15,7 @@ use smb_sharing::{
 };
 use std::fs;
 use std::fs::File;
-use std::io::{ErrorKind, IsTerminal};
+use std::io::IsTerminal;
 use std::os::unix::fs::MetadataExt;
 
 /// After how many seconds a connection ends that says nothing and takes nothing, and one that was never answered.
@@ -36,18 +37,25 @@ const CARRIAGE_RETURN: &str =
 const ARE_TYPED: &str =
     "the passwords of the accounts, each in a line of its own, then Ctrl-D; what is typed is seen";
 
-/// What a journal says of its share; None where there is no such file.
-fn journal_share(rt: &HostRuntime, path: &str) -> Result<Option<LimitedConfig>, JournalFault> {
-    let file = match fs::open(rt, path) {
-        Ok(file) => file,
-        Err(error) if error.kind() == ErrorKind::NotFound => return Ok(None),
-        Err(error) => return Err(JournalFault::of_read(error)),
+/// How much there is in a journal; None where there is no such file, or nothing in it.
+fn measured_journal(rt: &HostRuntime, path: &str) -> Result<Option<Measured>, KeptFault> {
+    let words = JournalWords {
+        path,
+        settles: false,
     };
-    let header = Lines::new(rt.alloc(), file).header()?;
-    if header.form != Form::Journal {
-        return Err(JournalFault::NoJournal);
+    if !words.has_bytes(rt)? {
+        return Ok(None);
     }
-    Ok(Some(header.config(rt.alloc())?))
+    let JournalFiles { tree, numbers, .. } = journal_files(rt, path, Space::greatest())?;
+    let mut measured = Measured::default();
+    for number in numbers.iter() {
+        if let Some(view) = tree.entry(*number) {
+            measured.entries = measured.entries.saturating_add(1);
+            measured.longest = measured.longest.max(view.size);
+        }
+    }
+    measured.bytes = tree.used();
+    Ok(Some(measured))
 }
 
 /// Says on standard error that the files of a folder take more bytes than the machine has. Nothing is said where the
@@ -66,24 +74,27 @@ fn say_memory(rt: &HostRuntime, folder: &str, measured: Measured) {
 /// What the share begins with: the files of its journal, where there is one, else those of the folder.
 fn found_for(rt: &HostRuntime, words: SharingWords<'_>) -> Result<Found, Fault> {
     let journal = match words.journal {
-        Some(path) => match journal_share(rt, path) {
+        Some(path) => match measured_journal(rt, path) {
             Ok(journal) => journal,
-            Err(fault) => {
-                let fault = Fault::Kept(KeptFault::Journal(fault));
-                return Err(fault.of_file(rt.alloc(), Form::Journal, path));
-            }
+            Err(fault) => return Err(Fault::Kept(fault).of_journal(rt.alloc(), path)),
         },
         None => None,
     };
-    match journal {
-        Some(LimitedConfig { limits, config }) => Ok(Found::Journal(limits, config)),
-        None => {
-            let name = share_name(rt, words.folder, words.name)?;
-            let measured = measure(rt, words.folder)?;
-            say_memory(rt, words.folder, measured);
-            Ok(Found::Folder(name, measured))
-        }
+    let name = share_name(rt, words.folder, words.name)?;
+    if let Some(measured) = journal {
+        return Ok(Found {
+            name,
+            measured,
+            goes_on: true,
+        });
     }
+    let measured = measure(rt, words.folder)?;
+    say_memory(rt, words.folder, measured);
+    Ok(Found {
+        name,
+        measured,
+        goes_on: false,
+    })
 }
 
 /// Says on standard error that others than its owner have a right to a file of passwords.
@@ -152,9 +163,8 @@ fn serve_words<'a>(
     goes_on: bool,
     facts: &'a TcpFacts,
 ) -> ServeWords<'a> {
-    let record = match words.journal {
-        Some(path) => Some(KeepWords {
-            form: Form::Journal,
+    let journal = match words.journal {
+        Some(path) => Some(JournalWords {
             path,
             settles: false,
         }),
@@ -173,13 +183,13 @@ fn serve_words<'a>(
         idle_seconds: IDLE_SECONDS,
         unanswered_seconds: UNANSWERED_SECONDS,
         most_owed: MOST_OWED,
-        record,
-        changes: None,
+        record: None,
+        journal,
         from: if goes_on { None } else { Some(words.folder) },
         clock: None,
         log: None,
+        status: None,
         facts,
-        writes_anew: true,
         said: Some(said),
     }
 }
@@ -196,7 +206,7 @@ pub fn share_folder(
     let wanted = Wanted::of(alloc, words)?;
     drop(hosts_of(alloc, words.hosts)?);
     let found = found_for(rt, words)?;
-    let goes_on = matches!(found, Found::Journal(..));
+    let goes_on = found.goes_on;
     let Plan { config, said } = Plan::new(alloc, words, &wanted, found, random_seed()?)?;
     let accounts = with_passwords(rt, words, wanted.accounts)?;
     let texts = Texts {

@@ -201,6 +201,11 @@ impl Connections {
         found
     }
 
+    /// How many bytes all are owed.
+    pub(crate) fn owed(&self) -> usize {
+        self.owed
+    }
+
     /// Where all are owed more bytes than they may be, the place of the one that is owed most. All are looked at only then.
     pub(crate) fn owed_most(&self) -> Option<usize>
         ensures { IfSome result (λ place. place < vec_len self.now.list) }

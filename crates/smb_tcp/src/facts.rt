@@ -33,6 +33,8 @@ pub struct PeerFacts {
     facts: RefCell<Vec<Fact>>,
     kept_out: Cell<Option<(SocketAddr, KeptOut)>>,
     kept_back: Cell<Option<(SocketAddr, KeptBack)>>,
+    // How many bytes all peers are owed.
+    owed: Cell<u64>,
 }
 
 impl PeerFacts {
@@ -47,6 +49,7 @@ impl PeerFacts {
             facts: RefCell::new(Vec::with_capacity(alloc, streams_for(connections))?),
             kept_out: Cell::new(None),
             kept_back: Cell::new(None),
+            owed: Cell::new(0),
         })
     }
 
@@ -80,6 +83,16 @@ impl PeerFacts {
     /// where none were since this was asked last.
     pub fn take_kept_back(&self) -> Option<(SocketAddr, KeptBack)> {
         self.kept_back.replace(None)
+    }
+
+    /// How many bytes all peers together were owed when a turn began last.
+    pub fn owed(&self) -> u64 {
+        self.owed.get()
+    }
+
+    /// Notes how many bytes all peers are owed.
+    pub(crate) fn note_owed(&self, bytes: u64) {
+        self.owed.set(bytes);
     }
 
     /// Notes that the address of a connection is kept back, and why.

@@ -414,6 +414,9 @@ impl<R: Net + Clock> Peers for TcpPeers<'_, R> {
 
     fn next(&mut self) -> PeerEvent {
         self.note_turn();
+        if let Some(facts) = self.facts {
+            facts.note_owed(self.connections.owed() as u64);
+        }
         if self.take_logins() {
             return PeerEvent::Idle;
         }

@@ -24,6 +24,8 @@ mod serving;
 #[cfg(test)]
 mod shown;
 #[cfg(test)]
+mod status;
+#[cfg(test)]
 mod streams;
 #[cfg(test)]
 mod talk;

@@ -5,11 +5,14 @@ use clap::ArgMatches;
 use clap::error::ErrorKind as WordFault;
 use smb_command_line::{CommandLine, Login, Texts, account_of, command, login_of};
 use smb_command_parts::{Fault, Level, LogWords};
-use smb_commands::{account, check, compact, extract, print_recording, replay_input};
+use smb_commands::{
+    account, check, check_journal, compact, extract, print_recording, replay_input,
+};
 use smb_config::BUILT_IN;
 use smb_replay::{CommandFault, Detail, Given, ReplayWords, hash_password, show_fields, show_text};
 use smb_serve_command::{
-    ChangesWords, Form, KeepWords, ServeWords, SharingWords, TcpFacts, serve_share, share_folder,
+    JournalWords, KeepWords, ServeWords, SharingWords, StatusWords, TcpFacts, serve_share,
+    share_folder,
 };
 use std::io::{BufWriter, ErrorKind, IsTerminal};
 use std::process::ExitCode;
@@ -126,25 +129,16 @@ fn hash_input(rt: &HostRuntime) -> ExitCode {
 
 /// Where a share is recorded, and how, where the words say that it is.
 fn record_of<'a>(words: &'a ArgMatches<'_>) -> Option<KeepWords<'a>> {
-    let settles = words.get_flag("sync");
-    if let Some(path) = words.get_str("journal") {
-        return Some(KeepWords {
-            form: Form::Journal,
-            path,
-            settles,
-        });
-    }
     Some(KeepWords {
-        form: Form::Recording,
         path: words.get_str("record")?,
-        settles,
+        settles: words.get_flag("sync"),
     })
 }
 
-/// Where a share's changes are kept, and how, where the words say that they are.
-fn changes_of<'a>(words: &'a ArgMatches<'_>) -> Option<ChangesWords<'a>> {
-    Some(ChangesWords {
-        path: words.get_str("changes")?,
+/// Where a share's files are kept, and how, where the words say that they are.
+fn journal_of<'a>(words: &'a ArgMatches<'_>) -> Option<JournalWords<'a>> {
+    Some(JournalWords {
+        path: words.get_str("journal")?,
         settles: words.get_flag("sync"),
     })
 }
@@ -160,6 +154,15 @@ fn log_words_of<'a>(words: &'a ArgMatches<'_>, must: bool) -> Option<LogWords<'a
         path: words.get_str("log")?,
         level,
         must,
+    })
+}
+
+/// Where a share's status is answered, where the words say that it is.
+fn status_of_words<'a>(words: &'a ArgMatches<'_>) -> Option<StatusWords<'a>> {
+    Some(StatusWords {
+        address: words.get_str("status")?,
+        anywhere: words.get_flag("status-anywhere"),
+        shows_names: words.get_flag("status-names"),
     })
 }
 
@@ -181,12 +184,12 @@ fn serve_words<'a>(
         unanswered_seconds: words.get_one("idle-new").unwrap_or(30),
         most_owed: words.get_one("owed").unwrap_or(1_073_741_824),
         record: record_of(words),
-        changes: changes_of(words),
+        journal: journal_of(words),
         from: words.get_str("from"),
         clock: words.get_one("clock"),
         log: log_words_of(words, words.get_flag("log-must")),
+        status: status_of_words(words),
         facts,
-        writes_anew: true,
         said: None,
     }
 }
@@ -283,6 +286,10 @@ fn run_command(
             status_of(rt, ended, Detail::Brief)
         }
         Some(("compact", _)) => status_of(rt, compact(rt), Detail::Brief),
+        Some(("check-journal", words)) => {
+            let checked = check_journal(rt, word_of(words, "file"));
+            status_of(rt, checked, Detail::Brief)
+        }
         Some((name, words)) => run_with_share(rt, name, line, words, login),
         None => replay_without_words(rt),
     }

@@ -1,0 +1,58 @@
+//! A share that begins with the files of a folder.
+
+use crate::clock::ServeClock;
+use crate::serve::{Serving, serve_peers};
+use smb_command_parts::Fault;
+use smb_engine::{Authenticator, Opens, Share, Tree};
+use smb_journal::{LimitedConfig, Mailbox, RecordedLogin};
+use smb_kept::{
+    KeptFault, OwnLine, OwnRecord, own_answers, path_of, put_folder_in, recorded_login, share_of,
+};
+use std::alloc::Global;
+
+/// An authenticator that lets the program's own client in first.
+pub fn with_own_client<'m, A: Authenticator + Drop>(
+    alloc: Global,
+    authenticator: A,
+    mailbox: &'m Mailbox,
+) -> Result<RecordedLogin<'m, A>, KeptFault> {
+    let hello = Vec::from_slice(alloc, authenticator.hello())?;
+    let requires_signing = authenticator.requires_signing();
+    let given = own_answers(alloc)?;
+    recorded_login(hello, requires_signing, given, authenticator, mailbox)
+}
+
+/// Puts the files of a folder into a new share of a path, which lets the program's own client in first.
+pub fn put_in<A: Authenticator + Drop, T: Tree + Drop, O: Opens + Drop>(
+    serving: Serving<'_, '_>,
+    folder: &str,
+    path: &str,
+    share: &mut Share<A, T, O>,
+    clock: &mut ServeClock<'_>,
+    record: Option<OwnRecord<'_>>,
+) -> Result<(), KeptFault> {
+    let mut line = OwnLine::new(share, clock, record);
+    put_folder_in(serving.rt, serving.limits, folder, path, &mut line)
+}
+
+/// Serves a new share that begins with the files of a folder, of which nothing is kept.
+pub fn serve_folder<A: Authenticator + Drop>(
+    serving: Serving<'_, '_>,
+    folder: &str,
+    limited: LimitedConfig,
+    authenticator: A,
+) -> Result<(), Fault> {
+    let alloc = serving.rt.alloc();
+    let path = path_of(alloc, limited.config.share.as_str())?;
+    let mailbox = Mailbox::new(alloc);
+    mailbox.close();
+    let login = with_own_client(alloc, authenticator, &mailbox)?;
+    match share_of(alloc, limited, login) {
+        Ok(mut share) => {
+            let mut clock = ServeClock::new(serving.rt, serving.words.clock);
+            put_in(serving, folder, path.as_str(), &mut share, &mut clock, None)?;
+            serve_peers(serving, &mut share, &mut clock, 2)
+        }
+        Err(fault) => Err(Fault::Kept(fault)),
+    }
+}

@@ -1,0 +1,155 @@
+//! A share whose files are kept in a journal.
+
+ghost use Rattle.std.specs.Prelude.{◌≡◌, IfOk};
+ghost use Rattle.smb_opens.specs.Good.{UnmarkedTree};
+
+use crate::clock::ServeClock;
+use crate::filling::{put_in, with_own_client};
+use crate::serve::{Serving, end_of, listening_peers, serve_seen};
+use crate::sight::Sight;
+use smb_command_parts::{Fault, random_number, say_cut_batch};
+use smb_engine::{Authenticator, HandleTable, ServeFault, Share};
+use smb_journal::{LimitedConfig, Mailbox};
+use smb_journal_start::{KeptTree, Space};
+use smb_kept::{JournalWords, Kept, KeptFault, KeptPeers, keep_changes, path_of};
+use smb_peers::{Peers, Stopping};
+use smb_reason::{Reason, Shown};
+
+/// A share whose files are kept.
+type KeptShare<A> = Share<A, KeptTree, HandleTable>;
+
+/// Serves a share whose files are kept to peers, and ends all connections. Gives the peers, and why not all is kept;
+/// None where it is.
+fn serve_kept_to<'a, A: Authenticator + Drop, P: Peers + Stopping + Drop>(
+    serving: Serving<'a, '_>,
+    share: &mut KeptShare<A>,
+    peers: P,
+    clock: &mut ServeClock<'_>,
+    sight: &Sight<'a>,
+) -> Result<(P, Option<Reason>), Fault> {
+    let mut kept = KeptPeers::new(peers);
+    serve_seen(serving, share, &mut kept, clock, sight)?;
+    share.end_all();
+    let last = share.keep_changes().err();
+    let (peers, failure) = kept.finish();
+    Ok((peers, failure.or(last)))
+}
+
+/// Serves a share whose files are kept, and whose next connection has the number `next`, for as many turns as the words
+/// say.
+fn serve_kept<A: Authenticator + Drop>(
+    serving: Serving<'_, '_>,
+    share: &mut KeptShare<A>,
+    clock: &mut ServeClock<'_>,
+    next: u64,
+) -> Result<(), Fault> {
+    let Serving {
+        rt,
+        words,
+        entrance,
+        ..
+    } = serving;
+    let sight = Sight::of(serving)?;
+    let peers = match listening_peers(rt, words, entrance, &sight, next) {
+        Ok(peers) => peers,
+        Err(fault) => return Err(fault),
+    };
+    match serve_kept_to(serving, share, peers, clock, &sight) {
+        Ok((peers, failure)) => end_of(rt.alloc(), peers, share.usage(), "journal", failure),
+        Err(fault) => Err(fault),
+    }
+}
+
+/// A share over the files of a journal, which is made where it is not there.
+fn kept_share<A: Authenticator + Drop>(
+    rt: &HostRuntime,
+    journal: JournalWords<'_>,
+    limited: LimitedConfig,
+    authenticator: A,
+) -> Result<KeptShare<A>, Fault> {
+    let LimitedConfig { limits, config } = limited;
+    let space = Space {
+        limits,
+        capacity: config.capacity,
+        created: config.created,
+    };
+    let Kept { tree, left_out } = keep_changes(rt, journal, random_number()?, space)?;
+    say_cut_batch(rt, journal.path, left_out);
+    let opens = HandleTable::new(rt.alloc());
+    match Share::over(rt.alloc(), limits, config, authenticator, tree, opens) {
+        Ok(share) => Ok(share),
+        Err(ServeFault::NoMemory { .. }) => Err(Fault::Kept(KeptFault::NoMemory)),
+        Err(_) => Err(Fault::Kept(KeptFault::BadConfig)),
+    }
+}
+
+/// Serves a share with the files of a journal, which is made where it is not there.
+pub fn serve_journal<A: Authenticator + Drop>(
+    serving: Serving<'_, '_>,
+    journal: JournalWords<'_>,
+    limited: LimitedConfig,
+    authenticator: A,
+) -> Result<(), Fault> {
+    match kept_share(serving.rt, journal, limited, authenticator) {
+        Ok(mut share) => {
+            let mut clock = ServeClock::new(serving.rt, serving.words.clock);
+            serve_kept(serving, &mut share, &mut clock, 1)
+        }
+        Err(fault) => Err(fault),
+    }
+}
+
+/// Says on standard error that a folder is not read.
+pub fn say_not_read(rt: &HostRuntime, folder: &str, journal: JournalWords<'_>) {
+    let (folder, path) = (Shown(folder.as_bytes()), Shown(journal.path.as_bytes()));
+    let _ = eprintln!(rt;
+        "{folder}: not read again: the share has the files of the journal {path}"
+    );
+}
+
+/// Serves a share that is kept in a journal that was made, once the files of a folder are put in and it has its name.
+fn serve_filled<A: Authenticator + Drop>(
+    serving: Serving<'_, '_>,
+    folder: &str,
+    path: &str,
+    made: JournalWords<'_>,
+    journal: JournalWords<'_>,
+    share: &mut KeptShare<A>,
+) -> Result<(), Fault> {
+    let mut clock = ServeClock::new(serving.rt, serving.words.clock);
+    put_in(serving, folder, path, share, &mut clock, None)?;
+    journal.refuse_bytes(serving.rt)?;
+    made.give_name(serving.rt, journal.path)?;
+    serve_kept(serving, share, &mut clock, 2)
+}
+
+/// Serves a new share that begins with the files of a folder, and is kept in a journal, which is not there yet: it is
+/// made under another name, and gets its own once all of them are put in. After a fault none is there.
+pub fn serve_journal_folder<A: Authenticator + Drop>(
+    serving: Serving<'_, '_>,
+    journal: JournalWords<'_>,
+    folder: &str,
+    limited: LimitedConfig,
+    authenticator: A,
+) -> Result<(), Fault> {
+    let rt = serving.rt;
+    let (alloc, name) = (rt.alloc(), journal.path);
+    let path = path_of(alloc, limited.config.share.as_str())?;
+    let made_path = format!(in alloc; "{name}.new")?;
+    let made = JournalWords {
+        path: made_path.as_str(),
+        ..journal
+    };
+    made.remove_left(rt)?;
+    let mailbox = Mailbox::new(alloc);
+    mailbox.close();
+    let login = with_own_client(alloc, authenticator, &mailbox)?;
+    let served = match kept_share(rt, made, limited, login) {
+        Ok(mut share) => serve_filled(serving, folder, path.as_str(), made, journal, &mut share),
+        Err(fault) => Err(fault),
+    };
+    if served.is_err() {
+        let _ = made.remove_left(rt);
+    }
+    served
+}

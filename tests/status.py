@@ -1,0 +1,210 @@
+"""The status of a share: who asks at its door, what he is answered, and who is kept out."""
+import http.client
+import json
+import os
+import re
+import socket
+import tempfile
+import time
+
+from tests.smb import ntlm
+from tests.smb.client import ALL_ACCESS
+from tests.smb.frames import write
+from tests.smb.kept import Looking, differs
+from tests.smb.program import GUEST, TOP
+from tests.smb.working import CREATE
+
+PAGES = ('/', '/status.json', '/metrics')
+# How many ask at once, and within how many seconds each is answered; after how many one is ended who asks too slowly.
+AT_ONCE, SOON, PATIENCE = 100, 30, 5
+
+
+class Watched:
+    """A share with a status, by its port."""
+
+    def __init__(self, program, *words, config=GUEST):
+        self.share = program.serve('--config', config, '--status', '127.0.0.1:0', *words)
+
+    def __enter__(self):
+        line = self.share.process.stderr.readline().decode()
+        found = re.fullmatch(r'status at http://127\.0\.0\.1:(\d+)/\n', line)
+        if found is None:
+            self.share.__exit__()
+            raise AssertionError(f'it says {line!r}')
+        self.port = int(found[1])
+        return self
+
+    def __exit__(self, *words):
+        self.share.__exit__(*words)
+
+    def get(self, path, method='GET', **fields):
+        """The status, the fields and the body of an answer."""
+        asked = http.client.HTTPConnection('127.0.0.1', self.port, timeout=SOON)
+        asked.request(method, path, headers=fields)
+        answer = asked.getresponse()
+        return answer.status, answer.headers, answer.read().decode()
+
+    def json(self):
+        status, _, body = self.get('/status.json')
+        return json.loads(body) if status == 200 else {}
+
+    def raw(self, data):
+        """What is answered to bytes, up to the end."""
+        with socket.create_connection(('127.0.0.1', self.port), SOON) as asked:
+            answer = b''
+            try:
+                asked.sendall(data)
+                while part := asked.recv(65_536):
+                    answer += part
+            except ConnectionError:
+                pass
+            return answer
+
+
+def works(share, name):
+    """A client with a file that is open and has bytes; it is gone once nobody has it."""
+    client = Looking(share).comes_in()
+    number = client.opens(name, ALL_ACCESS, CREATE)
+    client.asks(write(client.next_id(), number, 0, b'x' * 5_000, client.session, 1), 0, None)
+    return client
+
+
+def metrics_of(body):
+    """The values by name and labels; each name has its HELP and TYPE before."""
+    found, known = {}, set()
+    for line in body.splitlines():
+        if line.startswith('# '):
+            known.add(line.split()[2])
+        else:
+            name, _, value = line.rpartition(' ')
+            if name.partition('{')[0] not in known:
+                raise AssertionError(f'{line!r} has no HELP and TYPE')
+            found[name] = float(value)
+    return found
+
+
+def who_is_there_is_shown(program):
+    """A client, its session and its open, in each of the three forms."""
+    with Watched(program) as it:
+        before = it.json()
+        client = works(it.share, 'file')
+        found, (_, fields, page), (_, _, text) = it.json(), it.get('/'), it.get('/metrics')
+        address = '%s:%d' % client.client.stream.getsockname()
+        client.client.end()
+        (connection,), (opened,), metrics = found['connections'], found['opens'], metrics_of(text)
+        shown = (before['connections'], before['opens'], connection['dialect'], connection['address'],
+                 len(connection['sessions']), opened['connection'], opened['entry'], 'name' in opened,
+                 found['limits']['opens']['used'], found['requests']['WRITE'])
+        wrong = [differs(shown, ([], [], '2.1', address, 1, connection['number'], 2, False, 1, 1), 'JSON'),
+                 differs([metrics[f'smbshare_{name}'] for name in ('connections', 'requests_total{command="WRITE"}',
+                                                                   'used_bytes')], [1, 1, 8_192], 'metrics')]
+        return (address in page and fields['Cache-Control'] == 'no-store'
+                and "default-src 'none'" in fields['Content-Security-Policy'] and not any(wrong))
+
+
+def names_are_shown_where_they_are_asked_for(program):
+    """And can't be markup, nor end a string."""
+    name = "a&lt; ';"
+    with Watched(program, '--status-names') as it:
+        client = works(it.share, name)
+        names, page = [opened['name'] for opened in it.json()['opens']], it.get('/')[2]
+        client.client.end()
+        return not differs(names, [name], 'names') and 'a&amp;lt; &#39;;' in page and name not in page
+
+
+def users_and_refusals_are_shown(program):
+    """Of accounts: a right password and a wrong one."""
+    with tempfile.TemporaryDirectory() as folder:
+        accounts = ntlm.accounts_file(folder, ntlm.account('ann'))
+        with Watched(program, '--login', 'ntlm', '--accounts', accounts) as it:
+            client, wrong = it.share.client(), it.share.client()
+            ntlm.logs_in(client, 'ann', bytes.fromhex(ntlm.PASSWORD_HASH))
+            ntlm.logs_in(wrong, 'ann', bytes(16))
+            found = it.json()
+            users = [session['user'] for connection in found['connections'] for session in connection['sessions']]
+            return not differs((users[:1], found['refusals'].get('STATUS_LOGON_FAILURE')), (['ann'], 1), found)
+
+
+def what_is_no_request_for_it_is_refused(program):
+    """Another method, page and host, a head that is too long, and what is no request."""
+    with Watched(program) as it:
+        host = f'127.0.0.1:{it.port}'
+        asked = {b'GET / HTTP/1.1\r\nHost: elsewhere.example\r\n\r\n': 421,
+                 b'GET /x HTTP/1.1\r\nHost: localhost\r\n\r\n': 404,
+                 f'POST / HTTP/1.1\r\nHost: {host}\r\n\r\n'.encode(): 405, b'no request\r\n\r\n': 400,
+                 b'GET / HTTP/1.1\r\nHost: localhost\r\nLong: ' + b'x' * 9_000 + b'\r\n\r\n': 431,
+                 b'GET / HTTP/1.1\r\nHost: localhost\r\n\r\n': 200}
+        wrong = [differs(it.raw(data)[:12], b'HTTP/1.1 %d' % status, data[:60]) for data, status in asked.items()]
+        long = it.raw(b'GET / HTTP/1.1\r\nHost: localhost\r\nLong: ' + b'x' * 1_000_000)
+        return not any(wrong) and long[:12] in (b'HTTP/1.1 431', b'') and it.share.client().is_served()
+
+
+def who_asks_slowly_is_ended(program):
+    """One who says nothing, and one who sends a byte a second; the share goes on meanwhile, and so does its status."""
+    with Watched(program) as it:
+        silent, slow = (socket.create_connection(('127.0.0.1', it.port), SOON) for _ in range(2))
+        begin, ended = time.monotonic(), set()
+        while len(ended) < 2 and time.monotonic() - begin < 4 * PATIENCE:
+            for asked in {silent, slow} - ended:
+                try:
+                    if asked is slow:
+                        asked.sendall(b'G')
+                    asked.settimeout(0.3)
+                    if asked.recv(1) == b'':
+                        ended.add(asked)
+                except TimeoutError:
+                    pass
+                except ConnectionError:
+                    ended.add(asked)
+            if it.get('/metrics')[0] != 200 or not it.share.client().is_served():
+                return False
+        took = time.monotonic() - begin
+        return not differs((len(ended), took > PATIENCE - 1), (2, True), f'ended, behind {took:.1f} seconds')
+
+
+def many_are_answered(program):
+    """So many who ask at once, and a client that is served beside."""
+    with Watched(program) as it:
+        asked = [socket.create_connection(('127.0.0.1', it.port), SOON) for _ in range(AT_ONCE)]
+        client = works(it.share, 'file')
+        for i, one in enumerate(asked):
+            one.sendall(f'GET {PAGES[i % 3]} HTTP/1.1\r\nHost: localhost\r\n\r\n'.encode())
+        client.client.end()
+        found = [one.recv(12) for one in asked]
+        for one in asked:
+            one.close()
+        return not differs(set(found), {b'HTTP/1.1 200'}, 'answers')
+
+
+def a_journal_is_shown(program):
+    """By its length; of a share that has none, or is recorded, none is."""
+    with tempfile.TemporaryDirectory() as folder:
+        file, record = os.path.join(folder, 'journal'), os.path.join(folder, 'record')
+        with Watched(program, '--journal', file) as it:
+            works(it.share, 'file')
+            found, size = [it.json()['journal']['bytes']], os.path.getsize(file)
+        for words in ((), ('--record', record), ('--from', os.path.join(TOP, 'examples'))):
+            with Watched(program, *words) as it:
+                found.append(it.json()['journal'])
+        return not differs(found, [size, None, None, None], 'what is shown') and size > 5_000
+
+
+def an_address_is_looked_at(program):
+    """One that others reach is refused, and taken where that is asked for; words without it are wrong."""
+    serve = ('serve', '--listen', '127.0.0.1:0', '--turns', '1', '--config', GUEST)
+    open_one = program.ran(*serve, '--status', '0.0.0.0:0')
+    taken = program.ran(*serve, '--status', '0.0.0.0:0', '--status-anywhere')
+    said = 'status: others can reach it: name a loopback address, as 127.0.0.1:9100, or say --status-anywhere\n'
+    statuses = [program.run(*serve, *words)[0] for words in (('--status', 'here'), ('--status-names',),
+                                                             ('--status-anywhere',))]
+    return (not any([differs(open_one, (1, b'', said), 'open'), differs(statuses, [1, 2, 2], 'words')])
+            and taken[0] == 0 and 'status: whoever reaches it sees who is there and what is open\n' in taken[2])
+
+
+TESTS = (who_is_there_is_shown, names_are_shown_where_they_are_asked_for, users_and_refusals_are_shown,
+         what_is_no_request_for_it_is_refused, who_asks_slowly_is_ended, many_are_answered, a_journal_is_shown,
+         an_address_is_looked_at)
+
+
+def tests(words):
+    return [(test, words.program) for test in TESTS]
