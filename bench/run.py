@@ -42,6 +42,8 @@ SCRIPTS = [
     ('recording.py', [], 'What is kept and what is logged, over TCP. One client waits for each answer; medians of five. A record is text, in '
      'hex; a journal has what changes of the files. Without a log nothing is decoded. The last table is of a share that is begun '
      'again from its journal.'),
+    ('watched.py', [], 'A share with 50 other clients and 1,000 opens, whose status is asked for, or not. One client waits for each answer; '
+     'medians of seven, and the longest wait in all of them.'),
     ('requests.py', [], 'By how many requests smbclient puts and gets a file of 16 MiB, in dialect 2.1; each time 7 or 8 of them are other '
      'requests than READs and WRITEs.'),
     ('pages.py', [], 'READ and WRITE over TCP, one in flight, of a file of 16 MiB that is kept in pages, and the memory that files take. The '
