@@ -1,9 +1,10 @@
 //! Where a log is written: the file of a name, or standard error.
 
 use crate::fault::Fault;
+use crate::standard_error::{Severity, StandardError};
 use smb_reason::Reason;
 use std::fs::{File, Metadata, OpenOptions};
-use std::io::{ErrorKind, Stderr, Write};
+use std::io::{ErrorKind, Write};
 use std::os::unix::fs::{MetadataExt, OpenOptionsExt};
 use std::time::Instant;
 use std::{fs, io};
@@ -105,20 +106,22 @@ impl<'a> LogFile<'a> {
 #[derive(Drop)]
 pub struct LogOutput<'a> {
     file: Option<LogFile<'a>>,
-    errors: Stderr,
+    errors: StandardError,
 }
 
 impl<'a> LogOutput<'a> {
     /// The file of this name, which is made with mode 600 where it does not exist; or standard error, by its word.
     pub fn open(rt: &'a HostRuntime, path: &'a str) -> Result<Self, Fault> {
-        let errors = rt.stderr();
         if path == STANDARD_ERROR {
-            return Ok(LogOutput { file: None, errors });
+            return Ok(LogOutput {
+                file: None,
+                errors: StandardError::new(rt, Severity::Informational),
+            });
         }
         match LogFile::open(rt, path) {
             Ok(file) => Ok(LogOutput {
                 file: Some(file),
-                errors,
+                errors: StandardError::new(rt, Severity::Error),
             }),
             Err(error) => Err(Fault::Log(Reason(error.kind()))),
         }

@@ -1,6 +1,7 @@
 //! What is said where all goes on: by `serve` who cannot log in and what is not safe, and of a recording that its last line is cut.
 
 use crate::machine::{descriptors, memory};
+use crate::standard_error::{Severity, say};
 use smb_command_line::{Login, Texts};
 use smb_config::Configuration;
 use smb_journal::Form;
@@ -76,9 +77,9 @@ impl Entrance {
 }
 
 /// Says a line on standard error, where it holds.
-fn say(rt: &HostRuntime, holds: bool, line: &str) {
+fn say_where(rt: &HostRuntime, holds: bool, line: &str) {
     if holds {
-        let _ = eprintln!(rt; "{line}");
+        say(rt, Severity::Warning, line);
     }
 }
 
@@ -88,17 +89,19 @@ fn say_wants(rt: &HostRuntime, capacity: u64, connections: u64) {
     if let Some(memory) = memory(rt)
         && capacity > memory
     {
-        let _ = eprintln!(rt;
+        let line = format_args!(
             "capacity: {capacity} bytes, more than the {memory} of this machine's memory: clients are ended where it runs out"
         );
+        say(rt, Severity::Warning, line);
     }
     let wanted = connections.saturating_add(OWN_DESCRIPTORS);
     if let Some(descriptors) = descriptors(rt)
         && wanted > descriptors
     {
-        let _ = eprintln!(rt;
+        let line = format_args!(
             "connections: {connections} clients want {wanted} descriptors, and the program may have {descriptors} (ulimit -n): the last clients are not let in"
         );
+        say(rt, Severity::Warning, line);
     }
 }
 
@@ -115,39 +118,42 @@ pub fn say_notices(rt: &HostRuntime, texts: &Texts, login: Login, entrance: Entr
     } = entrance;
     match login {
         Login::Token => {
-            say(rt, texts.is_built_in, BUILT_IN_USER);
-            say(rt, !guest && users == 0, NO_USER);
+            say_where(rt, texts.is_built_in, BUILT_IN_USER);
+            say_where(rt, !guest && users == 0, NO_USER);
         }
         Login::Ntlm(words) => {
-            say(rt, users > 0, NO_TOKENS);
-            say(rt, !guest && accounts == 0, NO_ACCOUNT);
-            say(rt, words.seed.is_some(), SEED_IS_GIVEN);
-            say(rt, requires_signing && guest, GUESTS_DO_NOT_SIGN);
+            say_where(rt, users > 0, NO_TOKENS);
+            say_where(rt, !guest && accounts == 0, NO_ACCOUNT);
+            say_where(rt, words.seed.is_some(), SEED_IS_GIVEN);
+            say_where(rt, requires_signing && guest, GUESTS_DO_NOT_SIGN);
         }
     }
-    say(rt, texts.everyone_writes && users > 0, EVERYONE_WRITES);
-    say(rt, is_named_ipc, NAMED_IPC);
+    say_where(rt, texts.everyone_writes && users > 0, EVERYONE_WRITES);
+    say_where(rt, is_named_ipc, NAMED_IPC);
     say_wants(rt, capacity, connections);
+}
+
+/// Says on standard error that the end of a file was cut, where bytes of it are left out.
+fn say_left_out(rt: &HostRuntime, word: &str, name: &str, end: &str, left_out: u64) {
+    if left_out == 0 {
+        return;
+    }
+    let name = Shown(name.as_bytes());
+    let bytes = if left_out == 1 {
+        "byte is"
+    } else {
+        "bytes are"
+    };
+    let line = format_args!("{word}: {name}: its last {end} was cut: {left_out} {bytes} left out");
+    say(rt, Severity::Warning, line);
 }
 
 /// Says on standard error that the last line of a recording was cut, where bytes of it are left out.
 pub fn say_cut(rt: &HostRuntime, form: Form, name: &str, left_out: u64) {
-    let (word, name) = (form.word(), Shown(name.as_bytes()));
-    let _ = match left_out {
-        0 => Ok(()),
-        1 => eprintln!(rt; "{word}: {name}: its last line was cut: 1 byte is left out"),
-        _ => eprintln!(rt; "{word}: {name}: its last line was cut: {left_out} bytes are left out"),
-    };
+    say_left_out(rt, form.word(), name, "line", left_out);
 }
 
 /// Says on standard error that the end of a journal was cut, where bytes of it are left out.
 pub fn say_cut_batch(rt: &HostRuntime, name: &str, left_out: u64) {
-    let name = Shown(name.as_bytes());
-    let _ = match left_out {
-        0 => Ok(()),
-        1 => eprintln!(rt; "journal: {name}: its last batch was cut: 1 byte is left out"),
-        _ => eprintln!(rt;
-            "journal: {name}: its last batch was cut: {left_out} bytes are left out"
-        ),
-    };
+    say_left_out(rt, "journal", name, "batch", left_out);
 }

@@ -3,7 +3,7 @@
 use crate::logging::TcpFacts;
 use crate::serve::{ServeWords, serve_share};
 use smb_command_line::{Login, NtlmWords, Texts};
-use smb_command_parts::{Fault, hosts_of, memory, random_seed};
+use smb_command_parts::{Fault, Severity, hosts_of, memory, random_seed, say};
 use smb_engine::Tree;
 use smb_journal_start::Space;
 use smb_kept::{JournalFiles, JournalWords, KeptFault, journal_files};
@@ -65,9 +65,10 @@ fn say_memory(rt: &HostRuntime, folder: &str, measured: Measured) {
         && measured.bytes > memory
     {
         let (folder, bytes) = (Shown(folder.as_bytes()), measured.bytes);
-        let _ = eprintln!(rt;
+        let line = format_args!(
             "{folder}: its files take {bytes} bytes, more than the {memory} of this machine's memory: share a part of them, or have more"
         );
+        say(rt, Severity::Warning, line);
     }
 }
 
@@ -103,9 +104,10 @@ fn say_others(rt: &HostRuntime, name: &str, file: &File) {
         && metadata.mode() & NOT_THE_OWNERS != 0
     {
         let name = Shown(name.as_bytes());
-        let _ = eprintln!(rt;
+        let line = format_args!(
             "passwords of {name}: others than its owner have a right to it (chmod 600)"
         );
+        say(rt, Severity::Warning, line);
     }
 }
 
@@ -124,7 +126,7 @@ fn passwords_in(rt: &HostRuntime, name: &str) -> Result<Vec<u8>, Fault> {
 /// What standard input has of passwords.
 fn passwords_of_input(rt: &HostRuntime) -> Result<Vec<u8>, Fault> {
     if rt.stdin().is_terminal() {
-        let _ = eprintln!(rt; "{ARE_TYPED}");
+        say(rt, Severity::Informational, ARE_TYPED);
     }
     Ok(read_passwords(rt.alloc(), Passwords::StandardInput, rt.stdin())?)
 }
@@ -150,7 +152,7 @@ fn with_passwords(
     };
     let accounts = accounts_of(rt.alloc(), from, &read, accounts)?;
     if has_return(&read) {
-        let _ = eprintln!(rt; "{CARRIAGE_RETURN}");
+        say(rt, Severity::Warning, CARRIAGE_RETURN);
     }
     Ok(accounts)
 }

@@ -4,7 +4,7 @@
 use clap::ArgMatches;
 use clap::error::ErrorKind as WordFault;
 use smb_command_line::{CommandLine, Login, Texts, account_of, command, login_of};
-use smb_command_parts::{Fault, Level, LogWords};
+use smb_command_parts::{Fault, Level, LogWords, Severity, StandardError};
 use smb_commands::{
     account, check, check_journal, compact, extract, print_recording, replay_input,
 };
@@ -22,7 +22,7 @@ const SHARED_AT: &[&str] = &["127.0.0.1:4450"];
 
 /// Prints a fault on standard error, and gives its exit status.
 fn report(rt: &HostRuntime, fault: CommandFault, detail: Detail<'_>) -> ExitCode {
-    let mut errors = rt.stderr();
+    let mut errors = StandardError::new(rt, Severity::Error);
     ExitCode::from(fault.report(rt.alloc(), detail, &mut errors))
 }
 
@@ -31,7 +31,7 @@ fn status_of(rt: &HostRuntime, ended: Result<(), Fault>, detail: Detail<'_>) -> 
     match ended {
         Ok(()) => ExitCode::SUCCESS,
         Err(fault) => {
-            let mut errors = rt.stderr();
+            let mut errors = StandardError::new(rt, Severity::Error);
             ExitCode::from(fault.report(rt.alloc(), detail, &mut errors))
         }
     }
@@ -112,7 +112,7 @@ fn show_input(rt: &HostRuntime, with_fields: bool) -> ExitCode {
     let Ok(mut output) = BufWriter::new(rt.alloc(), rt.stdout()) else {
         return report(rt, CommandFault::NoMemory, Detail::Brief);
     };
-    let (alloc, mut errors) = (rt.alloc(), rt.stderr());
+    let (alloc, mut errors) = (rt.alloc(), StandardError::new(rt, Severity::Error));
     ExitCode::from(if with_fields {
         show_fields(alloc, rt.stdin(), &mut output, &mut errors)
     } else {
@@ -122,7 +122,7 @@ fn show_input(rt: &HostRuntime, with_fields: bool) -> ExitCode {
 
 /// Prints the hash of the password on standard input, and gives the exit status.
 fn hash_input(rt: &HostRuntime) -> ExitCode {
-    let (mut output, mut errors) = (rt.stdout(), rt.stderr());
+    let (mut output, mut errors) = (rt.stdout(), StandardError::new(rt, Severity::Error));
     let status = hash_password(rt.alloc(), rt.stdin(), &mut output, &mut errors);
     ExitCode::from(status)
 }
