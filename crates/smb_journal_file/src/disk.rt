@@ -5,6 +5,7 @@ ghost use Rattle.std.specs.Io.{StartsWith};
 ghost use Rattle.smb_journaled_tree.specs.Journal.{AddsPart};
 
 use super::done::Done;
+use super::room::{RoomFile, write_at_end};
 use smb_journaled_tree::{JournalFault, JournalFile};
 use smb_reason::Reason;
 use smb_recovery::Source;
@@ -24,6 +25,8 @@ pub struct DiskFile {
     size: u64,
     // Whether what is written is to last before it counts as written.
     syncs: bool,
+    // The room that it has on its disk, where it is to have any.
+    room: Option<RoomFile>,
     // Whether all of it was read.
     ended: bool,
     done: Done,
@@ -31,12 +34,17 @@ pub struct DiskFile {
 
 impl Model for DiskFile {
     ghost use Rattle.std.specs.Prelude.{◌≡◌, length};
+    ghost use Rattle.std.specs.Option.{option_map_or};
     ghost use Rattle.smb_journal_file.specs.Bytes.{bytes_of};
     ghost use Rattle.smb_journal_file.specs.State.{FileState};
 
     ghost Value = { FileState };
 
-    ghost view = { λ f. record { bytes = bytes_of f.done; ended = f.ended } };
+    ghost view = { λ f. record {
+      bytes = bytes_of f.done;
+      ended = f.ended;
+      room = option_map_or (λ room. room) f.room 0;
+    } };
 
     ghost invariant = { λ f. f.size ≡ length (bytes_of f.done) };
 }
@@ -57,26 +65,44 @@ fn read_behind(file: &mut File, count: u64, bytes: &mut Vec<u8>) -> Result<u64, 
 impl DiskFile {
     /// A file that is open where its first line ends, which has `first` bytes. What is written is put at its end. With
     /// `syncs` it lasts before it counts as written. With `ended` nothing is read of it: it has its first line alone.
+    /// It has no room.
     pub fn new(file: File, first: u64, syncs: bool, ended: bool) -> DiskFile
-        ensures { result ≡ record { bytes = []; ended = ended } }
+        ensures { result ≡ record { bytes = []; ended = ended; room = 0 } }
     {
         DiskFile {
             file,
             first,
             size: 0,
             syncs,
+            room: None,
             ended,
             done: Done::Nothing,
         }
     }
 
+    /// The same with this room.
+    pub fn with_room(mut self, room: RoomFile) -> DiskFile
+        ensures { (result.bytes ≡ self.bytes) × (result.ended ≡ self.ended) }
+    {
+        self.room = Some(room);
+        self
+    }
+
+    /// Why the disk had no room when some was needed last; None where it had, or where there is no file of room.
+    pub fn lacks_room(&self) -> Option<Reason> {
+        match &self.room {
+            Some(room) => room.lacks(),
+            None => None,
+        }
+    }
+
     // Writes bytes at the end.
     fn write(&mut self, bytes: &Vec<u8>) -> Result<(), Reason>
-        ensures { self.new ≡ self.old }
+        ensures bytes { self.new.bytes ≡ self.old.bytes }
+        ensures ended { self.new.ended ≡ self.old.ended }
     {
-        if let Err(error) = self.file.write_all(bytes) {
-            return Err(Reason(error.kind()));
-        }
+        let end = self.first.saturating_add(self.size);
+        write_at_end(&mut self.file, end, &mut self.room, bytes)?;
         if !self.syncs {
             return Ok(());
         }
@@ -120,8 +146,17 @@ impl Source for DiskFile {
 impl JournalFile for DiskFile {
     ghost held = { λ f. f.bytes };
 
+    ghost room = { λ f. f.room };
+
     fn len(&self) -> u64 {
         self.size
+    }
+
+    fn take_room(&mut self, count: u64) -> bool {
+        match &mut self.room {
+            Some(room) => room.take(count),
+            None => false,
+        }
     }
 
     fn append(&mut self, bytes: &Vec<u8>) -> Result<(), JournalFault> {

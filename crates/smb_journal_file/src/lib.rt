@@ -4,10 +4,15 @@
 //! first line says what it is, and has the seed of the first batch; the batches are behind it. To clauses the file is
 //! the bytes that were read of it and written to it ([`Done`]): that the disk has these bytes is trusted, and so is
 //! that after a crash it has some beginning of them, with zeros behind it or none.
+//!
+//! Beside it is a [`RoomFile`] of zeros: room on the disk that is taken before it is needed. Where the disk has no
+//! more, the bytes of a batch get this room, and a change that needs more is refused before it is made.
 #![tactic(auto)]
 
 mod disk;
 mod done;
+mod room;
 
 pub use disk::DiskFile;
 pub use done::Done;
+pub use room::{RoomFile, is_full};

@@ -2,3 +2,4 @@ pub mod Journal
 pub mod Written
 pub mod Slots
 pub mod Kept
+pub mod Room

@@ -1,6 +1,6 @@
 //! Where a journal's bytes are kept.
 
-ghost use Rattle.std.specs.Prelude.{◌≡◌, ◌++◌, [], OnOk, OnErr, length, take};
+ghost use Rattle.std.specs.Prelude.{◌≡◌, ◌++◌, ◌≤◌, true, [], OnOk, OnErr, length, take};
 ghost use Rattle.smb_journaled_tree.specs.Journal.{AddsPart};
 ghost use Rattle.smb_journaled_tree.specs.declared.file.JournalFault.TheVariants.{NoMemory};
 
@@ -54,9 +54,18 @@ pub trait JournalFile {
     /// Its bytes.
     ghost held: { Self → List ℕ };
 
+    /// How many bytes there is room for behind them, where no other program takes it.
+    ghost room: { Self → ℕ };
+
     /// How many bytes it has.
     fn len(&self) -> u64
         ensures { result ≡ length (held self.now) };
+
+    /// Takes room for `count` bytes behind those that it has, where it has less, and returns whether it has it. No byte
+    /// changes.
+    fn take_room(&mut self, count: u64) -> bool
+        ensures held { held self.new ≡ held self.old }
+        ensures room { result ≡ true → count ≤ room self.new };
 
     /// Puts bytes behind those that it has. After an error some of them are there, from the first on, and not all.
     fn append(&mut self, bytes: &Vec<u8>) -> Result<(), JournalFault>
@@ -73,7 +82,7 @@ pub trait JournalFile {
         ensures { held self.new ≡ held self.old };
 }
 
-/// A journal's file in memory, for trials.
+/// A journal's file in memory, for trials. It has room for all bytes that one can have.
 #[derive(Drop)]
 pub struct MemoryFile {
     bytes: Vec<u8>,
@@ -108,8 +117,14 @@ impl MemoryFile {
 impl JournalFile for MemoryFile {
     ghost held = { λ bytes. bytes };
 
+    ghost room = { λ _. 18446744073709551615 };
+
     fn len(&self) -> u64 {
         self.bytes.len() as u64
+    }
+
+    fn take_room(&mut self, _count: u64) -> bool {
+        true
     }
 
     fn append(&mut self, bytes: &Vec<u8>) -> Result<(), JournalFault> {

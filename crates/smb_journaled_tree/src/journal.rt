@@ -6,6 +6,7 @@ ghost use Rattle.smb_journaled_tree.specs.Journal.{KeepsFiles, LeavesOneOf};
 use super::faults::{add_fault, name_of, parent_of, size_fault, write_fault};
 use super::file::{JournalFault, JournalFile};
 use super::notes::{begin_file, note_dirty};
+use super::room::note_change;
 use super::slots::{Slots, slots_of};
 use super::torn::{append, mend};
 use smb_changes::{Change, OpenBatch};
@@ -261,7 +262,7 @@ impl<T: Tree + Drop, J: JournalFile + Drop> Tree for JournaledTree<T, J> {
             offset,
             bytes: buffer,
         };
-        match self.pending.note(change) {
+        match note_change(&mut self.file, &mut self.pending, self.entries, change) {
             Ok(()) => {}
             Err(_) => return Err(TreeFault::NoMemory),
         }
@@ -299,7 +300,7 @@ impl<T: Tree + Drop, J: JournalFile + Drop> Tree for JournaledTree<T, J> {
             Ok(()) => {}
             Err(_) => return Err(TreeFault::NoMemory),
         }
-        match self.pending.note(change) {
+        match note_change(&mut self.file, &mut self.pending, self.entries, change) {
             Ok(()) => {}
             Err(_) => return Err(TreeFault::NoMemory),
         }
@@ -320,7 +321,8 @@ impl<T: Tree + Drop, J: JournalFile + Drop> Tree for JournaledTree<T, J> {
             return Err(fault);
         }
         let count = self.pending.len();
-        match self.pending.note(Change::Size { number, size }) {
+        let change = Change::Size { number, size };
+        match note_change(&mut self.file, &mut self.pending, self.entries, change) {
             Ok(()) => {}
             Err(_) => return Err(TreeFault::NoMemory),
         }

@@ -6,9 +6,10 @@
 //! files as they were at the last time or as they are at this one (`specs/Journal.antt`). Where nothing changed nothing
 //! is written.
 //!
-//! Additions, writes and other sizes are noted before they are made, so that want of memory refuses them. Other times and
-//! attributes, marks, removals and moves take no memory for the journal: the entries that they change are marked dirty,
-//! for which each has a slot from its addition on, and `settle` notes each of these as it then is.
+//! Additions, writes and other sizes are noted before they are made: want of memory refuses them, and want of room in
+//! the file for all that is noted and a margin (`specs/Room.antt`). Other times and attributes, marks, removals and
+//! moves take no memory for the journal, and the margin of its room: the entries that they change are marked dirty, for
+//! which each has a slot from its addition on, and `settle` notes each of these as it then is.
 //!
 //! [`MemoryFile`] is a journal's file in memory, for trials.
 #![tactic(auto)]
@@ -17,6 +18,7 @@ mod faults;
 mod file;
 mod journal;
 mod notes;
+mod room;
 mod slots;
 mod torn;
 

@@ -17,14 +17,14 @@ invariant_of-self g c =
       noted = keeps_slotted content _ _ _ _ _ c.self.invariant.noted _ _ _ next refl refl (c.in-Err.ensures.dirty, c.in-Err.ensures.others);
     }
 
-pub invariant_of-self-in-Err-note : goal.invariant_of-self-in-Err-note
-invariant_of-self-in-Err-note g c =
+pub invariant_of-self-in-Err-note_change : goal.invariant_of-self-in-Err-note_change
+invariant_of-self-in-Err-note_change g c =
     let content = g.T.Tree.content c.self.inside.tree in
     let free : add_fault content (folded_path (parts_of c.args.path.now)) ≡ None = sym c.add_fault.ensures ∙ c.in_default.is in
     let next = number_left content (folded_path (parts_of c.args.path.now)) _ _ free c.next_no.ensures c.unwrap_or-next.ensures in
     record {
-      journal = c.self.invariant.journal;
-      noted = keeps_slotted content _ _ _ _ _ c.self.invariant.noted _ _ _ next refl c.in-Err-note.ensures.err
+      journal = rw (c.in-Err-note_change.ensures.held) c.self.invariant.journal;
+      noted = keeps_slotted content _ _ _ _ _ c.self.invariant.noted _ _ _ next refl c.in-Err-note_change.ensures.err
           (c.in-Ok.ensures.dirty, c.in-Ok.ensures.others);
     }
 
@@ -33,9 +33,9 @@ invariant_of-self-in-Err-add g c =
     let content = g.T.Tree.content c.self.inside.tree in
     let free : add_fault content (folded_path (parts_of c.args.path.now)) ≡ None = sym c.add_fault.ensures ∙ c.in_default.is in
     let next = number_left content (folded_path (parts_of c.args.path.now)) _ _ free c.next_no.ensures c.unwrap_or-next.ensures in
-    let back = c.truncate.ensures ∙ ap (take c.len-count.result) c.in-Ok-note.ensures.ok ∙ take_at (changes_in_batch c.self.inside.pending) _ c.len-count.result (omega (arith, c.len-count.ensures)) in
+    let back = c.truncate.ensures ∙ ap (take c.len-count.result) c.in-Ok-note_change.ensures.ok ∙ take_at (changes_in_batch c.self.inside.pending) _ c.len-count.result (omega (arith, c.len-count.ensures)) in
     record {
-      journal = c.self.invariant.journal;
+      journal = rw (c.in-Ok-note_change.ensures.held) c.self.invariant.journal;
       noted = keeps_slotted content _ _ _ _ _ c.self.invariant.noted _ _ _ next c.in-Err-add.ensures.err back
           (c.in-Ok.ensures.dirty, c.in-Ok.ensures.others);
     }
@@ -46,9 +46,9 @@ invariant_of-self-in-Ok-add g c =
     let content = g.T.Tree.content c.self.inside.tree in
     let next = number_left content (folded_path parts) _ _ c.in-Ok-add.ensures.lawful c.next_no.ensures c.unwrap_or-next.ensures in
     record {
-      journal = c.self.invariant.journal;
+      journal = rw (c.in-Ok-note_change.ensures.held) c.self.invariant.journal;
       noted = keeps_added content _ _ _ _ _ c.self.invariant.noted _ _ parts c.args.kind c.args.attributes.0 c.args.moment _
           (omega (arith, c.len-few.ensures.len, c.len-few.ensures.few)) c.in-Ok-add.ensures.lawful c.in-Ok-add.ensures.ok
-          (rw (next, c.parent_of.ensures, c.of.ensures, c.name_of.ensures) refl) c.in-Ok-note.ensures.writable
-          c.in-Ok-note.ensures.ok (rw (← next) (c.in-Ok.ensures.dirty, c.in-Ok.ensures.others)) (rw (← next) c.in-Ok.ensures.ok);
+          (rw (next, c.parent_of.ensures, c.of.ensures, c.name_of.ensures) refl) c.in-Ok-note_change.ensures.writable
+          c.in-Ok-note_change.ensures.ok (rw (← next) (c.in-Ok.ensures.dirty, c.in-Ok.ensures.others)) (rw (← next) c.in-Ok.ensures.ok);
     }
