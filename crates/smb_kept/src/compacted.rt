@@ -118,7 +118,7 @@ fn put_file<T: Tree, W: Write>(
 
 /// Writes a journal of a tree's files, to be read from its first line on. `numbers` are those of all entries, in rising
 /// order; where none has one it is passed over.
-fn write_files<T: Tree, W: Write>(
+pub(crate) fn write_files<T: Tree, W: Write>(
     alloc: Global,
     tree: &T,
     numbers: &[EntryNo],
@@ -140,7 +140,7 @@ fn write_files<T: Tree, W: Write>(
 }
 
 /// The numbers of a tree's entries, in rising order.
-fn numbers_of<T: Tree>(alloc: Global, tree: &T) -> Result<Vec<EntryNo>, AllocError> {
+pub(crate) fn numbers_of<T: Tree>(alloc: Global, tree: &T) -> Result<Vec<EntryNo>, AllocError> {
     let mut numbers = Vec::new(alloc);
     for number in 1..tree.next_no().unwrap_or(EntryNo::MAX) {
         if tree.entry(number).is_some() {

@@ -8,6 +8,8 @@ use crate::files::{
     cut, fault_of_read, give_name, lock, make_file, open_journal, remove_left, settle_name,
 };
 use crate::first_line::{FIRST_BYTES, is_begun, read_first, refused, seed_in, write_first};
+use crate::room::open_room;
+use crate::shortened::{Shortened, is_long, shorten};
 use smb_journal::JournalFault;
 use smb_journal_file::DiskFile;
 use smb_journal_start::{KeptTree, Space, StartFault, read, start};
@@ -32,6 +34,9 @@ pub enum FileFault {
     Neither,
     #[error("a journal of another version: serve it with the program that made it")]
     OtherVersion,
+    /// The file of its room can't be made or written.
+    #[error("the file of its room, which has its name and .room: {0}")]
+    Room(JournalFault),
     /// A share can't begin with what it keeps.
     #[error("{0}")]
     Start(StartFault),
@@ -140,19 +145,21 @@ pub struct Kept {
     pub tree: KeptTree,
     /// How many bytes of a cut last batch were left out.
     pub left_out: u64,
+    /// What came of it where the journal was too long.
+    pub shortened: Option<Shortened>,
 }
 
-/// The files that a journal keeps, as a tree whose changes are kept there from now on. A journal that is not there is
-/// made, with this seed.
-pub fn keep_changes(
+/// The files that a journal keeps as a tree, and how many bytes its first line and its whole batches have.
+fn go_on_with(
     rt: &HostRuntime,
     words: JournalWords<'_>,
+    room: &str,
     seed: u64,
     space: Space,
-) -> Result<Kept, KeptFault>
-    ensures unmarked { IfOk result (λ kept. UnmarkedTree kept.tree.content) }
-    ensures limits { IfOk result (λ kept. kept.tree.content.limits ≡ space.limits) }
-    ensures capacity { IfOk result (λ kept. kept.tree.content.capacity ≡ space.capacity) }
+) -> Result<(Kept, u64), KeptFault>
+    ensures unmarked { IfOk result (λ begun. UnmarkedTree begun.0.tree.content) }
+    ensures limits { IfOk result (λ begun. begun.0.tree.content.limits ≡ space.limits) }
+    ensures capacity { IfOk result (λ begun. begun.0.tree.content.capacity ≡ space.capacity) }
 {
     let alloc = rt.alloc();
     let Opened {
@@ -165,9 +172,47 @@ pub fn keep_changes(
         Ok(found) => found,
         Err(fault) => return Err(KeptFault::of_start(fault)),
     };
-    let left_out = found.cut;
-    match start(alloc, file, seed, found, space) {
-        Ok(tree) => Ok(Kept { tree, left_out }),
-        Err(fault) => Err(KeptFault::of_start(fault)),
+    let (left_out, whole) = (found.cut, found.whole.saturating_add(FIRST_BYTES as u64));
+    let file = file.with_room(open_room(rt, room)?);
+    let tree = match start(alloc, file, seed, found, space) {
+        Ok(tree) => tree,
+        Err(fault) => return Err(KeptFault::of_start(fault)),
+    };
+    let kept = Kept {
+        tree,
+        left_out,
+        shortened: None,
+    };
+    Ok((kept, whole))
+}
+
+/// The files that a journal keeps, as a tree whose changes are kept there from now on, with the room of the file
+/// `room`. A journal that is not there is made, with this seed. One that is much longer than its files need is first
+/// written anew, with this seed.
+pub fn keep_changes(
+    rt: &HostRuntime,
+    words: JournalWords<'_>,
+    room: &str,
+    seed: u64,
+    space: Space,
+) -> Result<Kept, KeptFault>
+    ensures unmarked { IfOk result (λ kept. UnmarkedTree kept.tree.content) }
+    ensures limits { IfOk result (λ kept. kept.tree.content.limits ≡ space.limits) }
+    ensures capacity { IfOk result (λ kept. kept.tree.content.capacity ≡ space.capacity) }
+{
+    let (mut kept, whole) = go_on_with(rt, words, room, seed, space)?;
+    if !is_long(rt.alloc(), &kept.tree, whole)? {
+        return Ok(kept);
     }
+    let shortened = shorten(rt, &kept.tree, words.path, whole, seed)?;
+    let left_out = kept.left_out;
+    if let Shortened::Done { .. } = shortened {
+        drop(kept);
+        (kept, _) = go_on_with(rt, words, room, seed, space)?;
+    }
+    Ok(Kept {
+        tree: kept.tree,
+        left_out,
+        shortened: Some(shortened),
+    })
 }

@@ -1,32 +1,44 @@
 //! Peers of a share whose changes are kept.
 
+use smb_journal_file::is_full;
 use smb_peers::{PeerEvent, Peers, SendFault, Stopping, Usage};
 use smb_reason::Reason;
+use std::thread::sleep;
+use std::time::Duration;
 
-/// Other peers, which are sent nothing while what changed in the share is not kept: then they ask to stop.
+/// How many milliseconds pass between two trials to keep what changed, where the disk has no room.
+const MILLISECONDS_BETWEEN_TRIALS: u64 = 100;
+
+/// Other peers, which are sent nothing while what changed in the share is not kept; nor is a piece of them taken then.
+/// Where the disk has no room, keeping is tried again; where another reason forbids it, they ask to stop.
 #[derive(Drop)]
-pub struct KeptPeers<P: Peers + Drop> {
+pub struct KeptPeers<'a, P: Peers + Drop> {
+    rt: &'a HostRuntime,
     peers: P,
+    // Whether what changed waits for room on the disk.
+    waits: bool,
     // Why what changed could not be kept.
     failure: Option<Reason>,
 }
 
-impl<P: Peers + Drop> KeptPeers<P> {
+impl<'a, P: Peers + Drop> KeptPeers<'a, P> {
     /// Peers of a share of which all is kept so far.
-    pub fn new(peers: P) -> Self {
+    pub fn new(rt: &'a HostRuntime, peers: P) -> Self {
         KeptPeers {
+            rt,
             peers,
+            waits: false,
             failure: None,
         }
     }
 
-    /// The peers, and why what changed could not be kept; None where all is kept.
+    /// The peers, and why what changed could not be kept; None where it is, or waits for room.
     pub fn finish(self) -> (P, Option<Reason>) {
         (self.peers, self.failure)
     }
 }
 
-impl<P: Peers + Drop> Peers for KeptPeers<P> {
+impl<P: Peers + Drop> Peers for KeptPeers<'_, P> {
     ghost use Rattle.std.specs.Prelude.{[], false};
 
     ghost calls = { λ p. [] };
@@ -43,6 +55,10 @@ impl<P: Peers + Drop> Peers for KeptPeers<P> {
         if self.failure.is_some() {
             return PeerEvent::Idle;
         }
+        if self.waits {
+            sleep(self.rt, Duration::from_millis(MILLISECONDS_BETWEEN_TRIALS));
+            return PeerEvent::Idle;
+        }
         self.peers.next()
     }
 
@@ -51,7 +67,7 @@ impl<P: Peers + Drop> Peers for KeptPeers<P> {
     }
 
     fn send(&mut self, number: u64, bytes: &[u8]) -> Result<usize, SendFault> {
-        if self.failure.is_some() {
+        if self.waits || self.failure.is_some() {
             return Ok(0);
         }
         self.peers.send(number, bytes)
@@ -74,10 +90,11 @@ impl<P: Peers + Drop> Peers for KeptPeers<P> {
     }
 
     fn note_kept(&mut self, kept: Result<(), Reason>) {
-        if let Err(reason) = kept
-            && self.failure.is_none()
-        {
-            self.failure = Some(reason);
+        self.waits = false;
+        match kept {
+            Err(reason) if is_full(reason.0) => self.waits = true,
+            Err(reason) if self.failure.is_none() => self.failure = Some(reason),
+            _ => {}
         }
     }
 
@@ -86,7 +103,7 @@ impl<P: Peers + Drop> Peers for KeptPeers<P> {
     }
 }
 
-impl<P: Peers + Stopping + Drop> Stopping for KeptPeers<P> {
+impl<P: Peers + Stopping + Drop> Stopping for KeptPeers<'_, P> {
     ghost use Rattle.std.specs.Prelude.{◌||◌, is_some};
 
     ghost stopped = { λ p. is_some p.failure || P.stopped p.peers };

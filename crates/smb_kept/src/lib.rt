@@ -1,7 +1,8 @@
 //! A share that is kept in a file, a journal or a recording, and what is made of such a file.
 //!
 //! ```text
-//!    keep_changes   a journal is opened or made; the files that it keeps are a tree that goes on there
+//!    keep_changes   a journal is opened or made; the files that it keeps are a tree that goes on
+//!                   there; one that is much longer than they need is written anew before
 //!    KeptPeers      ... nothing is sent while what changed is not kept
 //!    journal_files  the files of a journal, where no share goes on with it
 //!    Keeping        a new file is made, in which a share is recorded
@@ -34,7 +35,9 @@ mod performed;
 mod performing;
 mod progress;
 mod putting;
+mod room;
 mod share;
+mod shortened;
 mod steps;
 
 pub use compacted::{Compacted, compact};
@@ -50,4 +53,5 @@ pub use performed::{Deaf, Hears, perform};
 pub use performing::{perform_file, read_recording};
 pub use putting::{OwnLine, OwnRecord, put_folder_in};
 pub use share::{RecordedShare, nobody, recorded_login, recorded_share, share_of};
+pub use shortened::Shortened;
 pub use steps::Steps;
