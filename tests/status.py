@@ -1,4 +1,5 @@
 """The status of a share: who asks at its door, what he is answered, and who is kept out."""
+import datetime
 import http.client
 import json
 import os
@@ -17,6 +18,8 @@ from tests.smb.working import CREATE
 PAGES = ('/', '/status.json', '/metrics')
 # How many ask at once, and within how many seconds each is answered; after how many one is ended who asks too slowly.
 AT_ONCE, SOON, PATIENCE = 100, 30, 5
+# How long a file of room is.
+ROOM = 123_456
 
 
 class Watched:
@@ -189,6 +192,36 @@ def a_journal_is_shown(program):
         return not differs(found, [size, None, None, None], 'what is shown') and size > 5_000
 
 
+def room_and_last_write_are_shown(program, words, verb):
+    """Of a journal that is served with these words; its file of room is one of the test's own."""
+    with tempfile.TemporaryDirectory() as folder:
+        file = os.path.join(folder, 'journal')
+        with Watched(program, '--journal', file, *words) as it:
+            works(it.share, 'file')
+            had_room = os.path.exists(f'{file}.room')
+            before = it.json()['journal']['room_bytes']
+            with open(f'{file}.other', 'wb') as other:
+                other.truncate(ROOM)
+            os.replace(other.name, f'{file}.room')
+            found, (_, _, page), (_, _, text) = it.json()['journal'], it.get('/'), it.get('/metrics')
+            written = os.stat(file).st_mtime_ns // 1_000_000
+        synced = written / 1_000 if verb == 'synced' else None
+        moment = datetime.datetime.fromtimestamp(written // 1_000, datetime.timezone.utc)
+        said = (f'<p>{os.path.getsize(file)} bytes, {ROOM} bytes of room, {verb} last {moment:%Y-%m-%d %H:%M:%S}'
+                f'.{written % 1_000:03} UTC</p>')
+        metrics = [metrics_of(text).get(f'smbshare_journal_{name}') for name in (
+            'room_bytes', 'last_write_timestamp_seconds', 'last_sync_timestamp_seconds')]
+        return not any([differs((before is not None, said in page), (had_room, True), page),
+                        differs((found['room_bytes'], found['written'], found['synced']),
+                                (ROOM, written / 1_000, synced), 'JSON'),
+                        differs(metrics, [ROOM, written / 1_000, synced], 'metrics')])
+
+
+def a_journals_room_and_last_write_are_shown(program):
+    """In each of the three forms; with --sync its last write is called a sync."""
+    return all([room_and_last_write_are_shown(program, *how) for how in (((), 'written'), (('--sync',), 'synced'))])
+
+
 def an_address_is_looked_at(program):
     """One that others reach is refused, and taken where that is asked for; words without it are wrong."""
     serve = ('serve', '--listen', '127.0.0.1:0', '--turns', '1', '--config', GUEST)
@@ -203,7 +236,7 @@ def an_address_is_looked_at(program):
 
 TESTS = (who_is_there_is_shown, names_are_shown_where_they_are_asked_for, users_and_refusals_are_shown,
          what_is_no_request_for_it_is_refused, who_asks_slowly_is_ended, many_are_answered, a_journal_is_shown,
-         an_address_is_looked_at)
+         a_journals_room_and_last_write_are_shown, an_address_is_looked_at)
 
 
 def tests(words):

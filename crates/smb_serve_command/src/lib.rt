@@ -16,12 +16,14 @@ mod clock;
 mod filling;
 mod heard_login;
 mod host_peers;
+mod journal_watch;
 mod logging;
 mod serve;
 mod served_journal;
 mod served_peers;
 mod served_record;
 mod share;
+mod shown_journal;
 mod sight;
 mod status_door;
 

@@ -13,7 +13,8 @@ use crate::status_door::{StatusWords, status_listener};
 use mio::net::TcpListener;
 use smb_command_line::{Login, NtlmWords, Texts};
 use smb_command_parts::{
-    Entrance, Fault, LogWords, SERVED_SIGNING, hosts_of, ntlm_of, read_accounts, say_notices,
+    Entrance, Fault, LogWords, SERVED_SIGNING, Severity, StandardError, hosts_of, ntlm_of,
+    read_accounts, say, say_notices,
 };
 use smb_config::Configuration;
 use smb_engine::{Authenticator, HandleTable, NodeTree, Opens, Share, Tree};
@@ -22,7 +23,7 @@ use smb_kept::{JournalWords, KeepWords, KeptFault, share_of};
 use smb_peers::{Clock, Peers, Stopping, Usage};
 use smb_reason::Reason;
 use smb_replay::{CommandFault, ListenFault, check_unsigned};
-use smb_serving::serve_until_watched;
+use smb_serving::{Watcher, serve_until_watched};
 use smb_sharing::Said;
 use smb_tcp::{MOST_LISTENERS, TcpPeers};
 use smb_wire::limits::Limits;
@@ -127,14 +128,18 @@ fn announce(rt: &HostRuntime, listeners: &[net::TcpListener], said: Option<&Said
         let Ok(address) = listener.local_addr() else {
             continue;
         };
-        let _ = eprintln!(rt; "listening on {address}");
+        say(
+            rt,
+            Severity::Informational,
+            format_args!("listening on {address}"),
+        );
         shown = Some(match shown {
             Some(shown) if address.ip().is_loopback() || !shown.ip().is_loopback() => shown,
             _ => address,
         });
     }
     if let (Some(said), Some(address)) = (said, shown) {
-        let mut errors = rt.stderr();
+        let mut errors = StandardError::new(rt, Severity::Informational);
         let _ = said.write(address, &mut errors);
     }
 }
@@ -260,12 +265,31 @@ pub fn serve_seen<
     clock: &mut C,
     sight: &Sight<'a>,
 ) -> Result<(), Fault> {
+    let mut door = sight.door(serving.rt, serving.words)?;
+    serve_watched(serving, share, peers, clock, sight, &mut door);
+    Ok(())
+}
+
+/// The same, and a watcher looks at the share behind each turn.
+pub fn serve_watched<
+    'a,
+    A: Authenticator + Drop,
+    T: Tree + Drop,
+    O: Opens + Drop,
+    P: Peers + Stopping,
+    C: Clock,
+    L: Watcher<A, T, O>,
+>(
+    serving: Serving<'a, '_>,
+    share: &mut Share<A, T, O>,
+    peers: &mut P,
+    clock: &mut C,
+    sight: &Sight<'a>,
+    watcher: &mut L,
+) {
     let Serving { rt, words, .. } = serving;
     let mut observer = sight.observer(rt, words);
-    let mut door = sight.door(rt, words)?;
-    let turns = words.turns;
-    let _ = serve_until_watched(share, peers, clock, turns, &mut observer, &mut door);
-    Ok(())
+    let _ = serve_until_watched(share, peers, clock, words.turns, &mut observer, watcher);
 }
 
 /// Serves a share whose next connection has the number `next`, for so many turns.

@@ -5,13 +5,15 @@ ghost use Rattle.smb_opens.specs.Good.{UnmarkedTree};
 
 use crate::clock::ServeClock;
 use crate::filling::{put_in, with_own_client};
-use crate::serve::{Serving, end_of, listening_peers, serve_seen};
+use crate::journal_watch::{JournalWatch, OnDisk};
+use crate::serve::{Serving, end_of, listening_peers, serve_watched};
+use crate::shown_journal::room_of;
 use crate::sight::Sight;
-use smb_command_parts::{Fault, random_number, say_cut_batch};
+use smb_command_parts::{Fault, Severity, random_number, say, say_cut_batch};
 use smb_engine::{Authenticator, HandleTable, ServeFault, Share};
 use smb_journal::{LimitedConfig, Mailbox};
 use smb_journal_start::{KeptTree, Space};
-use smb_kept::{JournalWords, Kept, KeptFault, KeptPeers, keep_changes, path_of};
+use smb_kept::{JournalWords, Kept, KeptFault, KeptPeers, Shortened, keep_changes, path_of};
 use smb_peers::{Peers, Stopping};
 use smb_reason::{Reason, Shown};
 
@@ -27,8 +29,9 @@ fn serve_kept_to<'a, A: Authenticator + Drop, P: Peers + Stopping + Drop>(
     clock: &mut ServeClock<'_>,
     sight: &Sight<'a>,
 ) -> Result<(P, Option<Reason>), Fault> {
-    let mut kept = KeptPeers::new(peers);
-    serve_seen(serving, share, &mut kept, clock, sight)?;
+    let mut kept = KeptPeers::new(serving.rt, peers);
+    let mut watch = JournalWatch::new(serving, sight)?;
+    serve_watched(serving, share, &mut kept, clock, sight, &mut watch);
     share.end_all();
     let last = share.keep_changes().err();
     let (peers, failure) = kept.finish();
@@ -60,10 +63,11 @@ fn serve_kept<A: Authenticator + Drop>(
     }
 }
 
-/// A share over the files of a journal, which is made where it is not there.
+/// A share over the files of a journal, which is made where it is not there, with the room of the file `room`.
 fn kept_share<A: Authenticator + Drop>(
     rt: &HostRuntime,
     journal: JournalWords<'_>,
+    room: &str,
     limited: LimitedConfig,
     authenticator: A,
 ) -> Result<KeptShare<A>, Fault> {
@@ -73,8 +77,13 @@ fn kept_share<A: Authenticator + Drop>(
         capacity: config.capacity,
         created: config.created,
     };
-    let Kept { tree, left_out } = keep_changes(rt, journal, random_number()?, space)?;
+    let Kept {
+        tree,
+        left_out,
+        shortened,
+    } = keep_changes(rt, journal, room, random_number()?, space)?;
     say_cut_batch(rt, journal.path, left_out);
+    say_shortened(rt, journal.path, shortened);
     let opens = HandleTable::new(rt.alloc());
     match Share::over(rt.alloc(), limits, config, authenticator, tree, opens) {
         Ok(share) => Ok(share),
@@ -90,7 +99,8 @@ pub fn serve_journal<A: Authenticator + Drop>(
     limited: LimitedConfig,
     authenticator: A,
 ) -> Result<(), Fault> {
-    match kept_share(serving.rt, journal, limited, authenticator) {
+    let room = room_of(serving.rt.alloc(), journal)?;
+    match kept_share(serving.rt, journal, room.as_str(), limited, authenticator) {
         Ok(mut share) => {
             let mut clock = ServeClock::new(serving.rt, serving.words.clock);
             serve_kept(serving, &mut share, &mut clock, 1)
@@ -99,12 +109,29 @@ pub fn serve_journal<A: Authenticator + Drop>(
     }
 }
 
+/// Says on standard error that a journal that was too long was written anew, or why not.
+fn say_shortened(rt: &HostRuntime, name: &str, shortened: Option<Shortened>) {
+    let name = Shown(name.as_bytes());
+    match shortened {
+        None => {}
+        Some(Shortened::Done { now, before }) => {
+            let line = format_args!("journal: {name}: written anew, with {now} bytes for {before}");
+            say(rt, Severity::Informational, line);
+        }
+        Some(Shortened::Not(reason)) => {
+            let line = format_args!("journal: {name}: not written anew: {reason}");
+            say(rt, Severity::Warning, line);
+        }
+    }
+}
+
 /// Says on standard error that a folder is not read.
 pub fn say_not_read(rt: &HostRuntime, folder: &str, journal: JournalWords<'_>) {
     let (folder, path) = (Shown(folder.as_bytes()), Shown(journal.path.as_bytes()));
-    let _ = eprintln!(rt;
+    let line = format_args!(
         "{folder}: not read again: the share has the files of the journal {path}"
     );
+    say(rt, Severity::Informational, line);
 }
 
 /// Serves a share that is kept in a journal that was made, once the files of a folder are put in and it has its name.
@@ -117,7 +144,12 @@ fn serve_filled<A: Authenticator + Drop>(
     share: &mut KeptShare<A>,
 ) -> Result<(), Fault> {
     let mut clock = ServeClock::new(serving.rt, serving.words.clock);
-    put_in(serving, folder, path, share, &mut clock, None)?;
+    if let Err(fault) = put_in(serving, folder, path, share, &mut clock, None) {
+        return Err(Fault::Kept(match share.server().store().tree().lacks_room() {
+            Some(reason) => KeptFault::RecordFailed(reason),
+            None => fault,
+        }));
+    }
     journal.refuse_bytes(serving.rt)?;
     made.give_name(serving.rt, journal.path)?;
     serve_kept(serving, share, &mut clock, 2)
@@ -144,12 +176,18 @@ pub fn serve_journal_folder<A: Authenticator + Drop>(
     let mailbox = Mailbox::new(alloc);
     mailbox.close();
     let login = with_own_client(alloc, authenticator, &mailbox)?;
-    let served = match kept_share(rt, made, limited, login) {
+    let room_path = room_of(alloc, journal)?;
+    let room = JournalWords {
+        path: room_path.as_str(),
+        ..journal
+    };
+    let served = match kept_share(rt, made, room.path, limited, login) {
         Ok(mut share) => serve_filled(serving, folder, path.as_str(), made, journal, &mut share),
         Err(fault) => Err(fault),
     };
     if served.is_err() {
         let _ = made.remove_left(rt);
+        let _ = room.remove_left(rt);
     }
     served
 }

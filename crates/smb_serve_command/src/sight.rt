@@ -5,6 +5,7 @@ use crate::host_peers::HostPeers;
 use crate::logging::{ServedLog, TcpFacts, served_log};
 use crate::serve::{ServeWords, Serving};
 use crate::served_peers::ServedPeers;
+use crate::shown_journal::ShownJournal;
 use crate::status_door::{Shown, StatusDoor, status_listener};
 use smb_command_parts::{Fault, LogOutput};
 use smb_log::{LogObserver, LoggedPeers};
@@ -65,6 +66,16 @@ impl<'a> Sight<'a> {
         ServedPeers::new(WatchedPeers::new(logged, facts, clock, system, watch, next))
     }
 
+    /// Logs what happens to the server itself, where there is a log. The clock is that of the words.
+    pub fn note(&self, rt: &HostRuntime, first: Option<u64>, event: &str) {
+        if let Some(log) = &self.log
+            && let Ok(mut log) = log.try_borrow_mut()
+        {
+            log.note_moment(ServeClock::new(rt, first).moment());
+            log.note(event);
+        }
+    }
+
     /// The observer of the share.
     pub fn observer<'l>(
         &'l self,
@@ -96,7 +107,7 @@ impl<'a> Sight<'a> {
         let shown = Shown {
             shows_names: status.shows_names,
             journal: match words.journal {
-                Some(journal) => Some(journal.path),
+                Some(journal) => Some(ShownJournal::new(rt.alloc(), journal)?),
                 None => None,
             },
             most_owed: words.most_owed,

@@ -2,19 +2,20 @@
 
 use crate::clock::ServeClock;
 use crate::serve::fault_of;
+use crate::shown_journal::ShownJournal;
 use mio::net::{TcpListener, TcpStream};
-use smb_command_parts::Fault;
+use smb_command_parts::{Fault, Severity, say};
 use smb_engine::{Authenticator, Opens, Share, Tree};
 use smb_replay::{CommandFault, ListenFault};
 use smb_serving::Watcher;
-use smb_status::{Around, Journal, Room, Watch, answer_of};
+use smb_status::{Around, Room, Watch, answer_of};
 use smb_tcp::PeerFacts;
 use std::alloc::{AllocError, Global};
 use std::cell::RefCell;
 use std::io::{ErrorKind, Read, Write};
 use std::net::{Shutdown, SocketAddr};
 use std::time::{Clock, Duration};
-use std::{fs, io, mem};
+use std::{io, mem};
 
 /// How many callers there are at a time at most; others wait until one is gone.
 const MOST_CALLERS: usize = 16;
@@ -31,6 +32,9 @@ const LONGEST_LOOK: u64 = 1;
 /// How many bytes are read at once.
 const AT_ONCE: usize = 8_192;
 
+/// What is said of a status that others reach.
+const OPEN_TO_OTHERS: &str = "status: whoever reaches it sees who is there and what is open";
+
 /// What is answered to whom, and where from.
 #[derive(Clone, Copy)]
 pub struct StatusWords<'a> {
@@ -43,11 +47,10 @@ pub struct StatusWords<'a> {
 }
 
 /// What is shown beside the share and what is noted of it.
-#[derive(Clone, Copy)]
+#[derive(Drop)]
 pub struct Shown<'a> {
     pub shows_names: bool,
-    /// The file of the share's journal.
-    pub journal: Option<&'a str>,
+    pub journal: Option<ShownJournal<'a>>,
     /// How many bytes all clients together may be owed.
     pub most_owed: u64,
 }
@@ -160,9 +163,10 @@ pub fn status_listener(rt: &HostRuntime, words: StatusWords<'_>) -> Result<TcpLi
 
 /// Says on standard error where a share's status is, and that others reach it where they do.
 fn announce(rt: &HostRuntime, address: SocketAddr) {
-    let _ = eprintln!(rt; "status at http://{address}/");
+    let line = format_args!("status at http://{address}/");
+    say(rt, Severity::Informational, line);
     if !address.ip().is_loopback() {
-        let _ = eprintln!(rt; "status: whoever reaches it sees who is there and what is open");
+        say(rt, Severity::Warning, OPEN_TO_OTHERS);
     }
 }
 
@@ -221,11 +225,8 @@ impl OpenDoor<'_> {
 
     /// What is shown beside the share.
     fn around(&self) -> Around {
-        let journal = match self.shown.journal {
-            Some(path) => fs::metadata(self.rt, path).ok().map(|found| Journal {
-                bytes: found.len(),
-                synced: None,
-            }),
+        let journal = match &self.shown.journal {
+            Some(journal) => journal.look(self.rt),
             None => None,
         };
         Around {
@@ -303,17 +304,31 @@ impl OpenDoor<'_> {
         }
     }
 
+    /// Whether the last look is long enough ago, at the moment at which the turn began: the watch has it, and the system is
+    /// not asked for the time behind each turn.
+    fn is_time_to_look(&self) -> bool {
+        let Ok(watch) = self.watch.try_borrow() else {
+            return false;
+        };
+        match watch.turn() {
+            Some(began) => {
+                began.saturating_sub(self.looked_at) >= Duration::from_millis(BETWEEN_LOOKS)
+            }
+            None => false,
+        }
+    }
+
     /// Looks at the door, where the last look is long enough ago.
     fn look<A: Authenticator + Drop, T: Tree + Drop, O: Opens + Drop>(
         &mut self,
         share: &Share<A, T, O>,
     ) {
+        if !self.is_time_to_look() {
+            return;
+        }
         let Ok(now) = self.rt.monotonic() else {
             return;
         };
-        if now.saturating_sub(self.looked_at) < Duration::from_millis(BETWEEN_LOOKS) {
-            return;
-        }
         self.looked_at = now;
         self.take_in(now);
         for place in 0..self.callers.len() {

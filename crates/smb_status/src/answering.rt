@@ -6,7 +6,7 @@ use crate::metrics::put_metrics;
 use crate::page::put_page;
 use crate::reading::{Page, Reading, Step};
 use crate::status::Status;
-use crate::view::{Around, status_of};
+use crate::view::{Around, status_of, status_without_opens};
 use crate::watch::Watch;
 use smb_engine::{Authenticator, Opens, Share, Tree};
 use std::alloc::{AllocError, Global};
@@ -38,7 +38,10 @@ pub fn answer_of<A: Authenticator + Drop, T: Tree + Drop, O: Opens + Drop>(
         Step::More => return Ok(None),
         Step::Refuse(why) => refusal_answer(alloc, why)?,
         Step::Answer(page) => {
-            let status = status_of(share, watch, around)?;
+            let status = match page {
+                Page::Html | Page::Json => status_of(share, watch, around)?,
+                Page::Metrics => status_without_opens(share, watch, around)?,
+            };
             page_of(alloc, page, &status)?
         }
     };

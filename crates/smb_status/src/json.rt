@@ -2,7 +2,7 @@
 
 use crate::counts::{COMMAND_NAMES, Counts, REFUSALS, RULES};
 use crate::status::{ConnectionRow, Journal, OpenedRow, Rooms, SessionRow, Status};
-use crate::text::{put_json_text, put_seconds, put_unix_time};
+use crate::text::{put_decimal, put_json_text, put_seconds, put_unix_time};
 use crate::words::{dialect_name, put_access, put_share};
 use std::alloc::AllocError;
 
@@ -26,7 +26,7 @@ fn put_text(said: Option<&str>, text: &mut String) -> Result<(), AllocError> {
 /// Adds a number, or null.
 fn put_number(number: Option<u64>, text: &mut String) -> Result<(), AllocError> {
     match number {
-        Some(number) => write!(text, "{number}"),
+        Some(number) => put_decimal(number, text),
         None => text.push_str("null"),
     }
 }
@@ -86,13 +86,14 @@ fn put_connections(status: &Status, text: &mut String) -> Result<(), AllocError>
 
 /// Adds who has an open, and of which entry it is.
 fn put_owner(row: &OpenedRow, text: &mut String) -> Result<(), AllocError> {
-    let number = row.number;
-    write!(text, "{{\"number\":{number},\"connection\":")?;
+    text.push_str("{\"number\":")?;
+    put_decimal(row.number, text)?;
+    text.push_str(",\"connection\":")?;
     put_number(row.connection, text)?;
     text.push_str(",\"user\":")?;
     put_text(row.user.as_ref().map(|user| user.as_str()), text)?;
-    let entry = row.entry;
-    write!(text, ",\"entry\":{entry}")
+    text.push_str(",\"entry\":")?;
+    put_decimal(row.entry, text)
 }
 
 /// Adds what an open may do, and what others may.
@@ -101,8 +102,12 @@ fn put_rights(row: &OpenedRow, text: &mut String) -> Result<(), AllocError> {
     put_access(row.access, text)?;
     text.push_str("\",\"shares\":\"")?;
     put_share(row.share, text)?;
-    let (deletes, locks) = (row.is_deleted_on_close, row.locks);
-    write!(text, "\",\"delete_on_close\":{deletes},\"locks\":{locks}")
+    text.push_str(if row.is_deleted_on_close {
+        "\",\"delete_on_close\":true,\"locks\":"
+    } else {
+        "\",\"delete_on_close\":false,\"locks\":"
+    })?;
+    put_decimal(row.locks, text)
 }
 
 /// Adds an open.
@@ -141,16 +146,26 @@ fn put_rooms(rooms: &Rooms, text: &mut String) -> Result<(), AllocError> {
     text.push_str("}")
 }
 
+/// Adds a moment, or null.
+fn put_moment(moment: Option<u64>, text: &mut String) -> Result<(), AllocError> {
+    match moment {
+        Some(moment) => put_unix_time(moment, text),
+        None => text.push_str("null"),
+    }
+}
+
 /// Adds the journal, or null.
 fn put_journal(journal: Option<Journal>, text: &mut String) -> Result<(), AllocError> {
-    let Some(Journal { bytes, synced }) = journal else {
+    let Some(journal) = journal else {
         return text.push_str(",\n\"journal\":null");
     };
-    write!(text, ",\n\"journal\":{{\"bytes\":{bytes},\"synced\":")?;
-    match synced {
-        Some(moment) => put_unix_time(moment, text)?,
-        None => text.push_str("null")?,
-    }
+    let bytes = journal.bytes;
+    write!(text, ",\n\"journal\":{{\"bytes\":{bytes},\"room_bytes\":")?;
+    put_number(journal.room, text)?;
+    text.push_str(",\"written\":")?;
+    put_moment(journal.written, text)?;
+    text.push_str(",\"synced\":")?;
+    put_moment(journal.synced, text)?;
     text.push_str("}")
 }
 

@@ -100,18 +100,23 @@ fn put_rooms(rooms: &Rooms, text: &mut String) -> Result<(), AllocError> {
     Ok(())
 }
 
-/// Adds the length of the journal, and when it was last put on the disk.
+/// Adds the length of the journal and its room, and when it was last written and put on the disk.
 fn put_journal(journal: Journal, text: &mut String) -> Result<(), AllocError> {
     let help = "Length of the journal of changes.";
     put_gauge("smbshare_journal_bytes", help, journal.bytes, text)?;
+    if let Some(room) = journal.room {
+        let help = "Room that is taken for the journal before it is needed.";
+        put_gauge("smbshare_journal_room_bytes", help, room, text)?;
+    }
+    if let Some(written) = journal.written {
+        let name = "smbshare_journal_last_write_timestamp_seconds";
+        let help = "When the journal was last written, since 1970.";
+        put_moment(name, help, written, text)?;
+    }
     if let Some(synced) = journal.synced {
+        let name = "smbshare_journal_last_sync_timestamp_seconds";
         let help = "When the journal was last put on the disk, since 1970.";
-        put_moment(
-            "smbshare_journal_last_sync_timestamp_seconds",
-            help,
-            synced,
-            text,
-        )?;
+        put_moment(name, help, synced, text)?;
     }
     Ok(())
 }

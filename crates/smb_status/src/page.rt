@@ -2,7 +2,7 @@
 
 use crate::counts::{COMMAND_NAMES, Counts, REFUSALS, RULES};
 use crate::status::{ConnectionRow, Journal, OpenedRow, Room, SessionRow, Status};
-use crate::text::{put_html, put_seconds};
+use crate::text::{put_decimal, put_html, put_seconds};
 use crate::words::{dialect_name, put_access, put_share};
 use smb_log_text::put_moment;
 use std::alloc::AllocError;
@@ -70,7 +70,9 @@ fn close_table(more: u64, text: &mut String) -> Result<(), AllocError> {
 
 /// Adds a field of a row that has a number.
 fn put_number(number: u64, text: &mut String) -> Result<(), AllocError> {
-    write!(text, "<td class=\"n\">{number}</td>")
+    text.push_str("<td class=\"n\">")?;
+    put_decimal(number, text)?;
+    text.push_str("</td>")
 }
 
 /// Adds a field of a row that anybody may have typed, `-` for none.
@@ -198,9 +200,16 @@ fn put_rooms(status: &Status, text: &mut String) -> Result<(), AllocError> {
 fn put_journal(journal: Journal, text: &mut String) -> Result<(), AllocError> {
     let bytes = journal.bytes;
     write!(text, "<h2>Journal</h2>\n<p>{bytes} bytes")?;
-    if let Some(synced) = journal.synced {
-        text.push_str(", on the disk since ")?;
-        put_moment(synced, text)?;
+    if let Some(room) = journal.room {
+        write!(text, ", {room} bytes of room")?;
+    }
+    let (said, moment) = match journal.synced {
+        Some(synced) => (", synced last ", Some(synced)),
+        None => (", written last ", journal.written),
+    };
+    if let Some(moment) = moment {
+        text.push_str(said)?;
+        put_moment(moment, text)?;
         text.push_str(" UTC")?;
     }
     text.push_str("</p>\n")

@@ -8,7 +8,6 @@ use smb_peers::{Clock, PeerEvent, Peers, SendFault, Stopping, Usage};
 use smb_reason::Reason;
 use std::cell::RefCell;
 use std::time;
-use std::time::Duration;
 
 /// An opening of which the share has not decided, and when it came.
 #[derive(Clone, Copy)]
@@ -29,8 +28,6 @@ pub struct WatchedPeers<'a, P: Peers + Drop, F: ConnectionFacts, C: Clock + Drop
     watch: Option<&'a RefCell<Watch>>,
     waiting: Option<Opening>,
     next: u64,
-    // When the turn began, by the system's time.
-    turn: Option<Duration>,
 }
 
 impl<'a, P: Peers + Drop, F: ConnectionFacts, C: Clock + Drop, R: time::Clock> WatchedPeers<
@@ -58,7 +55,6 @@ impl<'a, P: Peers + Drop, F: ConnectionFacts, C: Clock + Drop, R: time::Clock> W
             watch,
             waiting: None,
             next,
-            turn: None,
         }
     }
 
@@ -68,23 +64,20 @@ impl<'a, P: Peers + Drop, F: ConnectionFacts, C: Clock + Drop, R: time::Clock> W
     }
 
     /// Notes how long the turn took that ends now.
-    fn end_turn(&mut self)
-        ensures { self.new.peers ≡ self.old.peers }
-    {
-        if let Some(since) = self.turn.take()
+    fn end_turn(&self) {
+        if let Some(mut watch) = borrowed(self.watch)
             && let Ok(now) = self.system.monotonic()
-            && let Some(mut watch) = borrowed(self.watch)
         {
-            watch.counts.count_turn(now.saturating_sub(since));
+            watch.end_turn(now);
         }
     }
 
     /// Notes that a turn begins, where something is noted.
-    fn begin_turn(&mut self)
-        ensures { self.new.peers ≡ self.old.peers }
-    {
-        if self.watch.is_some() {
-            self.turn = self.system.monotonic().ok();
+    fn begin_turn(&self) {
+        if let Some(mut watch) = borrowed(self.watch)
+            && let Ok(now) = self.system.monotonic()
+        {
+            watch.begin_turn(now);
         }
     }
 

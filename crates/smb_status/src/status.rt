@@ -30,7 +30,11 @@ pub struct Rooms {
 pub struct Journal {
     /// Its length in bytes.
     pub bytes: u64,
-    /// When it was last put on the disk, where it was, in units of 100 ns since 1601.
+    /// How many bytes of room are taken for it on its disk, where it has a file of room.
+    pub room: Option<u64>,
+    /// When it was last written, where that is known, in units of 100 ns since 1601.
+    pub written: Option<u64>,
+    /// When it was last put on the disk, where that is done with each write.
     pub synced: Option<u64>,
 }
 

@@ -5,6 +5,7 @@ use crate::watch::{Client, Watch};
 use smb_access::OpenRow;
 use smb_engine::{Authenticator, Opens, Share, Tree};
 use smb_log_text::{put_file_name, put_user};
+use smb_wire::{Access, ShareAccess};
 use std::alloc::{AllocError, Global};
 use std::collections::BTreeMap;
 
@@ -36,8 +37,40 @@ struct View<'s, A: Authenticator + Drop, T: Tree + Drop, O: Opens + Drop> {
     around: Around,
 }
 
-/// The connections of sessions, by their numbers: of those that are asked for, None where it is not known.
-type Owners = BTreeMap<u64, Option<u64>>;
+/// What is shown of an open's row: a row has room for a pattern besides, and is too long to be copied for each page.
+#[derive(Clone, Copy)]
+struct Opened {
+    number: u64,
+    session: u64,
+    entry: u64,
+    access: Access,
+    share: ShareAccess,
+    is_deleted_on_close: bool,
+}
+
+impl Opened {
+    /// Of a row.
+    fn of(row: &OpenRow) -> Self {
+        Opened {
+            number: row.number,
+            session: row.session,
+            entry: row.entry,
+            access: row.access,
+            share: row.share,
+            is_deleted_on_close: row.delete_on_close,
+        }
+    }
+}
+
+/// The connection of a session, and its user as it is shown, None for that of no finished session.
+#[derive(Drop)]
+struct Owner {
+    connection: u64,
+    user: Option<String>,
+}
+
+/// The owners of sessions, by the sessions' numbers: of those that are asked for, None where it is not known.
+type Owners = BTreeMap<u64, Option<Owner>>;
 
 /// How many rows a connection has: one for each session, and one where it has none.
 fn rows_of(row: &ConnectionRow) -> usize {
@@ -49,7 +82,17 @@ fn more(all: usize, shown: usize) -> u64 {
     all.saturating_sub(shown) as u64
 }
 
-impl<A: Authenticator + Drop, T: Tree + Drop, O: Opens + Drop> View<'_, A, T, O> {
+impl<'s, A: Authenticator + Drop, T: Tree + Drop, O: Opens + Drop> View<'s, A, T, O> {
+    /// Of a share, with what was noted of it.
+    fn of(share: &'s Share<A, T, O>, watch: &'s Watch, around: Around) -> Self {
+        View {
+            alloc: watch.alloc,
+            share,
+            watch,
+            around,
+        }
+    }
+
     /// A user as it is shown, None for that of no finished session.
     fn user(&self, connection: u64, session: u64) -> Result<Option<String>, AllocError> {
         let Some(user) = self.share.server().sessions().user(connection, session) else {
@@ -114,33 +157,36 @@ impl<A: Authenticator + Drop, T: Tree + Drop, O: Opens + Drop> View<'_, A, T, O>
     }
 
     /// The first opens, `most` of them at most.
-    fn first_opens(&self, most: usize) -> Result<Vec<OpenRow>, AllocError> {
+    fn first_opens(&self, most: usize) -> Result<Vec<Opened>, AllocError> {
         let opens = self.share.server().store().opens();
-        let mut rows = Vec::new(self.alloc);
+        let mut rows = Vec::with_capacity(self.alloc, most.min(self.share.usage().opens))?;
         let mut last = None;
         for _ in 0..most {
             let Some(number) = opens.after(last) else {
                 break;
             };
             if let Some(row) = opens.get(number) {
-                rows.push(*row)?;
+                rows.push(Opened::of(row))?;
             }
             last = Some(number);
         }
         Ok(rows)
     }
 
-    /// The connections of the sessions that have these opens.
-    fn owners(&self, opens: &[OpenRow]) -> Result<Owners, AllocError> {
+    /// The owners of the sessions that have these opens.
+    fn owners(&self, opens: &[Opened]) -> Result<Owners, AllocError> {
         let mut owners = BTreeMap::new(self.alloc);
         for open in opens {
-            owners.insert(open.session, None)?;
+            if !owners.contains_key(&open.session) {
+                owners.insert(open.session, None)?;
+            }
         }
         for client in self.watch.clients.values() {
             let connection = client.connection;
             for session in self.share.server().sessions().of_connection(connection) {
                 if let Some(owner) = owners.get_mut(session) {
-                    *owner = Some(connection);
+                    let user = self.user(connection, *session)?;
+                    *owner = Some(Owner { connection, user });
                 }
             }
         }
@@ -158,23 +204,23 @@ impl<A: Authenticator + Drop, T: Tree + Drop, O: Opens + Drop> View<'_, A, T, O>
         Ok(Some(text))
     }
 
-    /// An open as it is shown, of a connection where it is known.
-    fn open(&self, open: &OpenRow, connection: Option<u64>) -> Result<OpenedRow, AllocError> {
-        let user = match connection {
-            Some(connection) => self.user(connection, open.session)?,
+    /// An open as it is shown, of an owner where it is known.
+    fn open(&self, open: &Opened, owner: Option<&Owner>) -> Result<OpenedRow, AllocError> {
+        let user = match owner.and_then(|owner| owner.user.as_ref()) {
+            Some(user) => Some(user.clone()?),
             None => None,
         };
         let name = self.name(open.number)?;
         let locks = self.share.server().store().locks().count_on(open.entry);
         Ok(OpenedRow {
             number: open.number,
-            connection,
+            connection: owner.map(|owner| owner.connection),
             user,
             entry: open.entry,
             name,
             access: open.access,
             share: open.share,
-            is_deleted_on_close: open.delete_on_close,
+            is_deleted_on_close: open.is_deleted_on_close,
             locks: locks as u64,
         })
     }
@@ -183,9 +229,9 @@ impl<A: Authenticator + Drop, T: Tree + Drop, O: Opens + Drop> View<'_, A, T, O>
     fn opens(&self, most: usize) -> Result<Vec<OpenedRow>, AllocError> {
         let opens = self.first_opens(most)?;
         let owners = self.owners(opens.as_slice())?;
-        let mut rows = Vec::new(self.alloc);
+        let mut rows = Vec::with_capacity(self.alloc, opens.len())?;
         for open in opens.iter() {
-            let owner = owners.get(&open.session).copied().flatten();
+            let owner = owners.get(&open.session).and_then(|owner| owner.as_ref());
             let row = self.open(open, owner)?;
             rows.push(row)?;
         }
@@ -217,10 +263,10 @@ impl<A: Authenticator + Drop, T: Tree + Drop, O: Opens + Drop> View<'_, A, T, O>
         }
     }
 
-    /// All that is shown.
-    fn status(&self) -> Result<Status, AllocError> {
+    /// All that is shown. The opens have the rows that the connections leave of `most`.
+    fn status(&self, most: usize) -> Result<Status, AllocError> {
         let (connections, rows) = self.connections()?;
-        let opens = self.opens(MOST_ROWS.saturating_sub(rows))?;
+        let opens = self.opens(most.saturating_sub(rows))?;
         let usage = self.share.usage();
         let connections = Rows {
             more: more(self.watch.clients.len(), connections.len()),
@@ -250,11 +296,14 @@ pub fn status_of<A: Authenticator + Drop, T: Tree + Drop, O: Opens + Drop>(
     watch: &Watch,
     around: Around,
 ) -> Result<Status, AllocError> {
-    let view = View {
-        alloc: watch.alloc,
-        share,
-        watch,
-        around,
-    };
-    view.status()
+    View::of(share, watch, around).status(MOST_ROWS)
+}
+
+/// The same with none of the opens, which metrics only count.
+pub(crate) fn status_without_opens<A: Authenticator + Drop, T: Tree + Drop, O: Opens + Drop>(
+    share: &Share<A, T, O>,
+    watch: &Watch,
+    around: Around,
+) -> Result<Status, AllocError> {
+    View::of(share, watch, around).status(0)
 }

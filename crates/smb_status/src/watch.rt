@@ -4,6 +4,7 @@ use crate::counts::Counts;
 use std::alloc::{AllocError, Global};
 use std::cell::{RefCell, RefMut};
 use std::collections::BTreeMap;
+use std::time::Duration;
 
 /// A client, as its peers know it.
 #[derive(Drop)]
@@ -26,6 +27,8 @@ pub struct Watch {
     pub(crate) counts: Counts,
     // By the numbers under which the peers opened them, and so in the order of their connections.
     pub(crate) clients: BTreeMap<u64, Client>,
+    // When the turn began, by the system's time.
+    turn: Option<Duration>,
 }
 
 /// What is noted, lent, where something is.
@@ -41,12 +44,30 @@ impl Watch {
             since,
             counts: Counts::none(),
             clients: BTreeMap::new(alloc),
+            turn: None,
         }
     }
 
     /// What is counted.
     pub fn counts(&self) -> &Counts {
         &self.counts
+    }
+
+    /// When the turn began that goes on, by the system's time; None where none does, or the time is not known.
+    pub fn turn(&self) -> Option<Duration> {
+        self.turn
+    }
+
+    /// Notes that a turn begins at a moment of the system's time.
+    pub(crate) fn begin_turn(&mut self, now: Duration) {
+        self.turn = Some(now);
+    }
+
+    /// Notes that the turn ends, and how long it took.
+    pub(crate) fn end_turn(&mut self, now: Duration) {
+        if let Some(since) = self.turn.take() {
+            self.counts.count_turn(now.saturating_sub(since));
+        }
     }
 
     /// Takes note of a client under its peers' number. One for which there is no memory is not shown.

@@ -116,6 +116,8 @@ fn status(alloc: Global) -> Result<Status, AllocError> {
         sessions: 2,
         journal: Some(Journal {
             bytes: 4_711,
+            room: Some(1_048_576),
+            written: Some(NOW),
             synced: Some(NOW),
         }),
         connections: connections(alloc)?,
@@ -153,7 +155,7 @@ fn writes_a_page(rt: HostRuntime) -> Result<(), AllocError> {
         "<p>1000 bytes received, 20 bytes sent, longest turn 1.234567 seconds</p>\n",
         "<tr><td>connections</td><td class=\"n\">10</td><td class=\"n\">64</td><td class=\"n\">54</td></tr>\n",
         "<tr><td>bytes owed to clients</td><td class=\"n\">7</td><td class=\"n\">5</td><td class=\"n\">0</td></tr>\n",
-        "<p>4711 bytes, on the disk since 2025-12-08 06:11:07.123 UTC</p>\n",
+        "<p>4711 bytes, 1048576 bytes of room, synced last 2025-12-08 06:11:07.123 UTC</p>\n",
         "<tr><td class=\"n\">1</td><td>192.0.2.1:50000</td><td>2025-12-08 06:11:07.123</td><td>2.1</t\
              d><td class=\"n\">3</td><td>&lt;a href=&quot;x&quot;&gt;\\n\n&amp;&#39;\0\t\u{1F}\u{7F}ü\
              \u{1F600}</td><td>yes</td><td>no</td></tr>\n",
@@ -187,7 +189,8 @@ fn writes_json(rt: HostRuntime) -> Result<(), AllocError> {
         "\"limits\":{\"connections\":{\"used\":10,\"most\":64},\"opens\":{\"used\":1,\"most\":1024},\"\
              entries\":{\"used\":5,\"most\":4096},\"bytes\":{\"used\":8192,\"most\":1048576},\"owed_b\
              ytes\":{\"used\":7,\"most\":5}},\n",
-        "\"journal\":{\"bytes\":4711,\"synced\":1765174267.123},\n",
+        "\"journal\":{\"bytes\":4711,\"room_bytes\":1048576,",
+        "\"written\":1765174267.123,\"synced\":1765174267.123},\n",
         "\"requests\":{\"NEGOTIATE\":0,",
         "\"READ\":3,",
         "\"unknown\":2},\n\"refusals\":{\"STATUS_BUFFER_OVERFLOW\":0,",
@@ -234,6 +237,8 @@ fn writes_metrics(rt: HostRuntime) -> Result<(), AllocError> {
         "smbshare_owed_bytes 7\n",
         "smbshare_owed_limit_bytes 5\n",
         "smbshare_journal_bytes 4711\n",
+        "smbshare_journal_room_bytes 1048576\n",
+        "smbshare_journal_last_write_timestamp_seconds 1765174267.123\n",
         "smbshare_journal_last_sync_timestamp_seconds 1765174267.123\n",
         "# HELP smbshare_requests_total Requests that were performed.\n# TYPE smbshare_requests_total \
              counter\nsmbshare_requests_total{command=\"NEGOTIATE\"} 0\n",

@@ -1,0 +1,118 @@
+//! What is said of a journal's room while its share is served.
+
+use crate::serve::Serving;
+use crate::sight::Sight;
+use crate::status_door::StatusDoor;
+use smb_command_parts::{Fault, Severity, say};
+use smb_engine::{Authenticator, Opens, Share, Tree};
+use smb_journal_start::KeptTree;
+use smb_reason::{Reason, Shown};
+use smb_serving::Watcher;
+use std::alloc::AllocError;
+use std::time::Instant;
+
+/// How many seconds pass at least between two lines that say that there is no room.
+const SECONDS_BETWEEN_LINES: u64 = 60;
+
+/// What is said where the disk has no room, behind the reason, and where it has some again.
+const LACKS_ROOM: &str = "until there is room files are read, renamed and removed, and not written";
+
+const HAS_ROOM: &str = "there is room again";
+
+/// A tree that is kept on a disk.
+pub trait OnDisk {
+    /// Why the disk has no room; None where it has.
+    fn lacks_room(&self) -> Option<Reason>;
+}
+
+impl OnDisk for KeptTree {
+    fn lacks_room(&self) -> Option<Reason> {
+        self.file().lacks_room()
+    }
+}
+
+/// Looks, behind each turn, whether a share's journal has room, and says on standard error and in the log where it has
+/// none, once a minute at most, and where it has some again. Then it looks for who asks for the share's status.
+#[derive(Drop)]
+pub struct JournalWatch<'l, 'a> {
+    rt: &'a HostRuntime,
+    path: &'a str,
+    clock: Option<u64>,
+    sight: &'l Sight<'a>,
+    door: StatusDoor<'l>,
+    /// Whether it was said that there is no room, and not yet that there is some again.
+    is_said: bool,
+    /// When it was said last that there is none.
+    said: Option<Instant>,
+}
+
+impl<'l, 'a> JournalWatch<'l, 'a> {
+    /// Of a share that is to be served.
+    pub fn new(serving: Serving<'a, '_>, sight: &'l Sight<'a>) -> Result<Self, Fault>
+    where
+        'a: 'l,
+    {
+        let Serving { rt, words, .. } = serving;
+        let path = match words.journal {
+            Some(journal) => journal.path,
+            None => "",
+        };
+        Ok(JournalWatch {
+            rt,
+            path,
+            clock: words.clock,
+            sight,
+            door: sight.door(rt, words)?,
+            is_said: false,
+            said: None,
+        })
+    }
+
+    /// Whether it was said less than a minute ago that there is no room.
+    fn was_said_lately(&self) -> bool {
+        let Some(said) = &self.said else {
+            return false;
+        };
+        match said.elapsed(self.rt) {
+            Ok(passed) => passed.as_secs() < SECONDS_BETWEEN_LINES,
+            Err(_) => true,
+        }
+    }
+
+    /// Says why there is no room, or else that there is some, on standard error and in the log.
+    fn say(&self, lacks: Option<Reason>) -> Result<(), AllocError> {
+        let (alloc, path) = (self.rt.alloc(), Shown(self.path.as_bytes()));
+        let (severity, event) = match lacks {
+            Some(reason) => {
+                let event = format!(in alloc; "journal: {path}: {reason}: {LACKS_ROOM}")?;
+                (Severity::Warning, event)
+            }
+            None => {
+                let event = format!(in alloc; "journal: {path}: {HAS_ROOM}")?;
+                (Severity::Informational, event)
+            }
+        };
+        say(self.rt, severity, event.as_str());
+        self.sight.note(self.rt, self.clock, event.as_str());
+        Ok(())
+    }
+
+    /// Says why there is no room, or that there is some, where that is to be said.
+    fn note_room(&mut self, lacks: Option<Reason>) {
+        if lacks.is_some() && !self.was_said_lately() {
+            self.said = Instant::now(self.rt).ok();
+            self.is_said = self.say(lacks).is_ok();
+        }
+        if lacks.is_none() && self.is_said {
+            self.is_said = self.say(None).is_err();
+        }
+    }
+}
+
+impl<A: Authenticator + Drop, T: Tree + OnDisk + Drop, O: Opens + Drop> Watcher<A, T, O>
+    for JournalWatch<'_, '_> {
+    fn look(&mut self, share: &Share<A, T, O>) {
+        self.note_room(share.server().store().tree().lacks_room());
+        self.door.look(share);
+    }
+}
