@@ -8,7 +8,7 @@ from tests.keeping.journal import FIRST_BYTES, STATES, batches_of, make, seen
 from tests.smb.client import ALL_ACCESS
 from tests.smb.frames import set_info, write
 from tests.smb.kept import (Looking, begun, bytes_in, bytes_of, differs, ended, extracted, keeping, killed, put,
-                            tree_of)
+                            tree_of, with_room)
 from tests.smb.working import CREATE, DISPOSITION, Ended
 
 # How long a file is at which a write fails.
@@ -134,7 +134,7 @@ def is_full_at(program, form, length):
     """Whether a share ends where its file has so many bytes, says and logs it, and has in it what was acknowledged."""
     with tempfile.TemporaryDirectory() as folder:
         file, log, to = (os.path.join(folder, name) for name in ('kept', 'log', 'to'))
-        with keeping(program, f'--{form}', file, '--log', log, longest=length) as share:
+        with keeping(program, f'--{form}', with_room(file), '--log', log, longest=length) as share:
             count, end = written_until_it_ends(share), ended(share)
         wrong = [differs(end, (1, f'{form}: {file}: {TOO_LARGE}\n'), f'{form}, at {length}'),
                  f"\tfailed: the {form} can't be written: file too large\t" not in bytes_of(log).decode()]

@@ -8,8 +8,8 @@ from tests.keeping.damaged import EXISTS, IN_USE, OTHER_VERSION
 from tests.keeping.journal import FIRST, seen
 from tests.smb.client import ALL_ACCESS
 from tests.smb.frames import write
-from tests.smb.kept import (Looking, begun, bytes_in, bytes_of, differs, extracted, keeping, killed, put, tree_in,
-                            tree_of)
+from tests.smb.kept import (Looking, begun, bytes_in, bytes_of, differs, extracted, keeping, killed, names_in, put,
+                            tree_in, tree_of)
 from tests.smb.program import GUEST, TOP, Served
 from tests.smb.working import CREATE
 
@@ -181,7 +181,7 @@ def a_folder_is_not_read_again(program):
         for at, why in ((source + '2', 'no such file'), (journal, 'not a directory')):
             refused = begun(program, '--from', at, '--journal', journal + '2')
             wrong.append(differs(refused, (1, f'folder: {at}/: cannot be read: {why}\n'), at))
-        return not any(wrong) and sorted(os.listdir(folder)) == ['from', 'journal']
+        return not any(wrong) and names_in(folder) == ['from', 'journal']
 
 
 def an_empty_file_takes_a_folder(program):
@@ -197,7 +197,7 @@ def an_empty_file_takes_a_folder(program):
             found = [share.before, bytes_in(tree_in(share))]
             killed(share)
         found += [seen(program, journal), bytes_of(journal).startswith(FIRST), os.stat(journal).st_mode & 0o777,
-                  sorted(os.listdir(folder))]
+                  names_in(folder)]
         return not any([differs(refused, ((1, said), b'', ['journal']), 'no folder'),
                         differs(found, [[], {'a': b'first'}, {'a': b'first'}, True, 0o600, ['from', 'journal']], 'it')])
 
@@ -236,7 +236,7 @@ def a_folder_that_was_put_in_part_is_not_served(program):
             if os.path.exists(file):
                 os.remove(file)
             with program.serve(*words) as share:
-                found = bytes_in(tree_in(share)) == files, sorted(os.listdir(folder))
+                found = bytes_in(tree_in(share)) == files, names_in(folder)
             wrong.append(differs(found, (True, ['from', form]), form))
     return not any(wrong)
 
@@ -284,7 +284,7 @@ def one_that_is_put_in_is_in_use(program):
                           differs(begun(program, *share.words()), share.refused(True), 'once it is there'),
                           differs(bytes_in(client.tree()) == files, True, f'{form}: all is served')]
                 killed(share)
-            left = sorted(os.listdir(folder)), extracted(program, file, to), bytes_in(tree_of(to)) == files
+            left = names_in(folder), extracted(program, file, to), bytes_in(tree_of(to)) == files
             again = form == 'record' or seen(program, file) == files
             wrong.append(differs((*left, again), (['from', form], (0, ''), True, True), f'{form}, behind it'))
     return not any(wrong)

@@ -7,6 +7,7 @@ import threading
 import time
 
 from tests.smb.client import ALL_ACCESS
+from tests.smb.disk import MIB, fill, small_disk
 from tests.smb.frames import close, create, rename, replace, set_info, write
 from tests.smb.kept import Looking, begins_to_keep, bytes_in, extracted, keeping, killed, tree_in, tree_of
 from tests.smb.working import (CREATE, DELETE_ON_CLOSE, DIRECTORY_FILE, DISPOSITION, END_OF_FILE, FILE_ID_AT, OPEN,
@@ -16,9 +17,9 @@ OVERWRITE_IF = 5
 COLLISION, NO_SUCH_OPEN = 0xC0000035, 0xC0000128
 # How many clients there are, how many files each has at most, and how many bytes each and a WRITE has.
 CLIENTS, MOST_FILES, LONGEST, LONGEST_WRITE = 3, 4, 12_000, 1_500
-# Within how many seconds a server is killed; which round has what was written settled, and in which one the server is
-# killed too while it begins.
-SOONEST, LATEST, SETTLED, KILLED_TWICE = 0.05, 0.6, 4, 5
+# Within how many seconds a server is killed; which round has what was written settled, in which one the server is killed
+# too while it begins, and in which one the disk is full: how many bytes it has, and how many are left then.
+SOONEST, LATEST, SETTLED, KILLED_TWICE, FULL, DISK, LEFT = 0.05, 0.6, 4, 5, 5, 256 * MIB, 100_000
 # Over how many kills a journal is kept.
 OF_ONE, OF_ONE_UNPROVED = 25, 10
 
@@ -217,8 +218,9 @@ class Marking(Keeping):
 class Journal:
     """A journal that servers are killed on, and what may be there of each client's files."""
 
-    def __init__(self, program, folder, seed):
+    def __init__(self, program, folder, seed, may_be_full):
         self.program, self.folder, self.seed, self.chance = program, folder, seed, random.Random(seed)
+        self.may_be_full = may_be_full
         self.file, self.answered = os.path.join(folder, 'journal'), 0
         self.may_be_left, self.under_way, self.happened = [[{}]] * CLIENTS, 0, 0
 
@@ -249,7 +251,9 @@ class Journal:
         if number % KILLED_TWICE == KILLED_TWICE - 1:
             self.is_killed_at_its_begin()
         words = ['--sync'] if number % SETTLED == SETTLED - 1 else []
-        wrong = []
+        wrong, ballast = [], None
+        if self.may_be_full and number % FULL == FULL - 3:
+            ballast = fill(self.folder, LEFT)
         with keeping(self.program, '--journal', self.file, *words) as share:
             self.compare(share)
             clients = [Marking(share, i, f'{self.seed}/{number}', self.may_be_left[i][0]) for i in range(CLIENTS)]
@@ -260,10 +264,15 @@ class Journal:
             killed(share)
             for thread in threads:
                 thread.join()
+        if ballast:
+            os.remove(ballast)
         if wrong:
             raise Wrong(wrong[0])
         self.answered += sum(client.answered for client in clients)
         self.may_be_left = [client.may_be_left() for client in clients]
+        if ballast:
+            # A client that was ended has lost the files that were to go with its opens.
+            self.may_be_left = [left + Keeping.may_be_left(client) for left, client in zip(self.may_be_left, clients)]
 
     def is_extracted(self):
         """Whether an extraction gives what a client sees behind the last restart."""
@@ -276,8 +285,8 @@ class Journal:
 
 def is_kept_over(program, rounds, seed):
     """Whether nothing is lost that was acknowledged, and nothing is there that was refused, over so many rounds."""
-    with tempfile.TemporaryDirectory() as folder:
-        journal = Journal(program, folder, seed)
+    with tempfile.TemporaryDirectory() as folder, small_disk(DISK) as disk:
+        journal = Journal(program, disk or folder, seed, disk is not None)
         for number in range(rounds):
             try:
                 journal.round(number)

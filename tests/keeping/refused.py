@@ -9,7 +9,7 @@ from tests.keeping.journal import FIRST_BYTES, FRONT, batches_of
 from tests.keeping.killing import Keeping, Marking
 from tests.smb.client import ALL_ACCESS, PATIENCE
 from tests.smb.frames import set_info, write
-from tests.smb.kept import begins_to_keep, bytes_in, bytes_of, killed, put, tree_in
+from tests.smb.kept import begins_to_keep, bytes_in, bytes_of, killed, put, tree_in, with_room
 from tests.smb.preload import built
 from tests.smb.program import Served, limits
 from tests.smb.working import CREATE, DISPOSITION, Ended
@@ -98,7 +98,7 @@ class Trial:
     def fault_at_write(self, length):
         """What is wrong where no byte can be written behind so many of the journal; None where none is."""
         with tempfile.TemporaryDirectory() as folder:
-            file = self.begun(folder)
+            file = with_room(self.begun(folder))
             with Refusing(self.program, file, longest=length) as share:
                 outcomes = self.works(share)
                 if share.port is not None and share.process.poll() is None and os.path.getsize(file) < length:

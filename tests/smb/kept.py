@@ -20,6 +20,9 @@ SECOND, OF_1970 = 10_000_000, 116_444_736_000_000_000
 # What is said of a journal or a recording whose end is cut.
 CUT = r'(?:journal|record): standard input: its last (?:batch|line) was cut: (?:1 byte is|\d+ bytes are) left out\n'
 
+# How many bytes of room a journal of few files has.
+ROOM = 4 << 20
+
 # What a client sees of a file or a folder: its bytes, None of a folder; whether it is READONLY; and when it was
 # written, in seconds since 1970.
 Entry = collections.namedtuple('Entry', 'bytes is_readonly written')
@@ -28,6 +31,18 @@ Entry = collections.namedtuple('Entry', 'bytes is_readonly written')
 def keeping(program, *words, **limits):
     """The program, serving a share that lets guests in, with these words behind."""
     return program.serve('--config', GUEST, *words, **limits)
+
+
+def with_room(file):
+    """A journal's name, beside which there is a file of room: a hole, which no limit of a file's size forbids."""
+    with open(f'{file}.room', 'wb') as it:
+        it.truncate(ROOM)
+    return file
+
+
+def names_in(folder):
+    """What is in a folder, but for files of room."""
+    return sorted(name for name in os.listdir(folder) if not name.endswith('.room'))
 
 
 def begins_to_keep(program, file, *words, **how):

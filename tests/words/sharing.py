@@ -8,7 +8,7 @@ import tempfile
 from tests.smb import ntlm
 from tests.smb.client import ALL_ACCESS, OPEN_IF, Client
 from tests.smb.frames import close, create, read, tree_connect, write
-from tests.smb.kept import BYTES_AT
+from tests.smb.kept import BYTES_AT, names_in
 from tests.smb.program import Served
 from tests.smb.working import FILE_ID_AT, SESSION_ID_AT
 from tests.words.faults import differs, put
@@ -187,7 +187,7 @@ def an_empty_file_takes_the_folder(program):
         for away in (f'{at}.away', f'{at}.further'):
             with Shared(program, at, '--name', 'docs', '--journal', journal) as share:
                 client = share.comes_in('docs', 'somebody')
-                found.append((client and client.bytes_of('a.txt'), sorted(os.listdir(folder))))
+                found.append((client and client.bytes_of('a.txt'), names_in(folder)))
             if os.path.exists(at):
                 os.rename(at, away)
         wanted = [(TEXT, ['docs', 'journal']), (TEXT, ['docs.away', 'journal'])]
