@@ -5,6 +5,9 @@ ghost use Rattle.std.specs.Io.{StartsWith};
 ghost use Rattle.smb_journaled_tree.specs.Journal.{AddsPart};
 
 use super::done::Done;
+use super::next::NextWords;
+use super::pace::Pace;
+use super::renewals::Renewals;
 use super::room::{RoomFile, write_at_end};
 use smb_journaled_tree::{JournalFault, JournalFile};
 use smb_reason::Reason;
@@ -17,7 +20,7 @@ use std::snapshot::Snapshot;
 /// The file of a journal on a disk, behind its first line. It is read once, from its first byte to its last, and written
 /// to behind that; its bytes are those that were read and written.
 #[derive(Drop)]
-pub struct DiskFile {
+pub struct DiskFile<'a> {
     file: File,
     // How many bytes the first line has.
     first: u64,
@@ -30,9 +33,19 @@ pub struct DiskFile {
     // Whether all of it was read.
     ended: bool,
     done: Done,
+    // How many bytes last.
+    lasting: u64,
+    // Where its next file is made, where it is to have any, and what came of those that were.
+    next: Option<NextWords<'a>>,
+    renewals: Renewals,
+    // When it was written to, where it was made to take another one's place, and why it could not be written last.
+    pace: Option<Pace<'a>>,
+    refused: Option<Reason>,
+    // Why the name that it got may not last.
+    unnamed: Option<Reason>,
 }
 
-impl Model for DiskFile {
+impl<'a> Model for DiskFile<'a> {
     ghost use Rattle.std.specs.Prelude.{◌≡◌, length};
     ghost use Rattle.std.specs.Option.{option_map_or};
     ghost use Rattle.smb_journal_file.specs.Bytes.{bytes_of};
@@ -44,6 +57,7 @@ impl Model for DiskFile {
       bytes = bytes_of f.done;
       ended = f.ended;
       room = option_map_or (λ room. room) f.room 0;
+      lasting = f.lasting;
     } };
 
     ghost invariant = { λ f. f.size ≡ length (bytes_of f.done) };
@@ -62,12 +76,12 @@ fn read_behind(file: &mut File, count: u64, bytes: &mut Vec<u8>) -> Result<u64, 
     }
 }
 
-impl DiskFile {
+impl<'a> DiskFile<'a> {
     /// A file that is open where its first line ends, which has `first` bytes. What is written is put at its end. With
     /// `syncs` it lasts before it counts as written. With `ended` nothing is read of it: it has its first line alone.
     /// It has no room.
-    pub fn new(file: File, first: u64, syncs: bool, ended: bool) -> DiskFile
-        ensures { result ≡ record { bytes = []; ended = ended; room = 0 } }
+    pub fn new(file: File, first: u64, syncs: bool, ended: bool) -> Self
+        ensures { result ≡ record { bytes = []; ended = ended; room = 0; lasting = 0 } }
     {
         DiskFile {
             file,
@@ -77,15 +91,43 @@ impl DiskFile {
             room: None,
             ended,
             done: Done::Nothing,
+            lasting: 0,
+            next: None,
+            renewals: Renewals::none(),
+            pace: None,
+            refused: None,
+            unnamed: None,
         }
     }
 
     /// The same with this room.
-    pub fn with_room(mut self, room: RoomFile) -> DiskFile
-        ensures { (result.bytes ≡ self.bytes) × (result.ended ≡ self.ended) }
+    pub fn with_room(mut self, room: RoomFile) -> Self
+        ensures { (result.bytes ≡ self.entry.bytes) × (result.ended ≡ self.entry.ended) }
     {
         self.room = Some(room);
         self
+    }
+
+    /// The same, which is written anew where it gets long.
+    pub fn with_next(mut self, next: NextWords<'a>) -> Self
+        ensures { (result.bytes ≡ self.entry.bytes) × (result.ended ≡ self.entry.ended) }
+    {
+        self.next = Some(next);
+        self
+    }
+
+    /// An empty file that is open where its first line ends, and is to take the place of another one.
+    pub(crate) fn beside(rt: &'a HostRuntime, file: File, first: u64) -> Self
+        ensures { result.bytes ≡ [] }
+    {
+        let mut made = DiskFile::new(file, first, false, true);
+        made.pace = Some(Pace::new(rt));
+        made
+    }
+
+    /// What came of the files that were to take its place.
+    pub fn renewals(&self) -> Renewals {
+        self.renewals
     }
 
     /// Why the disk had no room when some was needed last; None where it had, or where there is no file of room.
@@ -101,6 +143,9 @@ impl DiskFile {
         ensures bytes { self.new.bytes ≡ self.old.bytes }
         ensures ended { self.new.ended ≡ self.old.ended }
     {
+        if let Some(reason) = self.unnamed {
+            return Err(reason);
+        }
         let end = self.first.saturating_add(self.size);
         write_at_end(&mut self.file, end, &mut self.room, bytes)?;
         if !self.syncs {
@@ -118,7 +163,7 @@ impl DiskFile {
     }
 }
 
-impl Source for DiskFile {
+impl Source for DiskFile<'_> {
     ghost read = { λ f. f.bytes };
 
     ghost ended = { λ f. f.ended };
@@ -143,10 +188,12 @@ impl Source for DiskFile {
     }
 }
 
-impl JournalFile for DiskFile {
+impl JournalFile for DiskFile<'_> {
     ghost held = { λ f. f.bytes };
 
     ghost room = { λ f. f.room };
+
+    ghost lasting = { λ f. f.lasting };
 
     fn len(&self) -> u64 {
         self.size
@@ -167,7 +214,11 @@ impl JournalFile for DiskFile {
             return Err(JournalFault::NotWritten(Reason(ErrorKind::FileTooLarge)));
         };
         if let Err(reason) = self.write(bytes) {
+            self.refused = Some(reason);
             return Err(JournalFault::NotWritten(reason));
+        }
+        if let Some(pace) = &mut self.pace {
+            pace.note_written(bytes.len() as u64);
         }
         self.done = Done::Added {
             before: Snapshot::of(&self.done),
@@ -197,9 +248,66 @@ impl JournalFile for DiskFile {
     }
 
     fn sync(&mut self) -> Result<(), JournalFault> {
-        match self.sync_data() {
-            Ok(()) => Ok(()),
-            Err(reason) => Err(JournalFault::NotWritten(reason)),
+        if let Some(pace) = &mut self.pace {
+            pace.begin();
+        }
+        if let Err(reason) = self.sync_data() {
+            self.refused = Some(reason);
+            return Err(JournalFault::NotWritten(reason));
+        }
+        if let Some(pace) = &mut self.pace {
+            pace.end();
+        }
+        self.lasting = self.size;
+        Ok(())
+    }
+
+    fn make_next(&mut self, needed: u64, seed: u64) -> Option<Self> {
+        let words = self.next?;
+        if !self.renewals.is_due(self.size, needed) {
+            return None;
+        }
+        match words.make(&self.file, seed) {
+            Ok(made) => made,
+            Err(reason) => {
+                self.renewals.fail(self.size, reason);
+                None
+            }
+        }
+    }
+
+    fn replace(&mut self, next: Self) -> Result<(), JournalFault> {
+        let Some(words) = self.next else {
+            return Err(JournalFault::NotWritten(Reason(ErrorKind::Other)));
+        };
+        if let Err(reason) = words.give_name(&self.file) {
+            self.renewals.fail(self.size, reason);
+            let _ = words.remove();
+            return Err(JournalFault::NotWritten(reason));
+        }
+        self.renewals.end(self.size, next.size);
+        self.file = next.file;
+        self.first = next.first;
+        self.size = next.size;
+        self.done = next.done;
+        self.lasting = next.lasting;
+        self.unnamed = words.settle_name().err();
+        Ok(())
+    }
+
+    fn is_due(&self) -> bool {
+        match &self.pace {
+            Some(pace) => pace.is_due(),
+            None => true,
+        }
+    }
+
+    fn drop_next(&mut self, next: Self) {
+        let reason = next.refused.or(self.lacks_room());
+        drop(next);
+        self.renewals.fail(self.size, reason.unwrap_or(Reason(ErrorKind::OutOfMemory)));
+        if let Some(words) = self.next {
+            let _ = words.remove();
         }
     }
 }

@@ -7,12 +7,22 @@
 //!
 //! Beside it is a [`RoomFile`] of zeros: room on the disk that is taken before it is needed. Where the disk has no
 //! more, the bytes of a batch get this room, and a change that needs more is refused before it is made.
+//!
+//! Where it gets much longer than its files need, a next file is made beside it ([`NextWords`]), which takes its place
+//! once it has all of them.
 #![tactic(auto)]
 
 mod disk;
 mod done;
+mod first;
+mod next;
+mod pace;
+mod renewals;
 mod room;
 
 pub use disk::DiskFile;
 pub use done::Done;
+pub use first::{FIRST, FIRST_BYTES, FIRST_DIGITS, first_line};
+pub use next::NextWords;
+pub use renewals::{Renewals, Renewed};
 pub use room::{RoomFile, is_full};

@@ -35,7 +35,7 @@ const GREATEST_CAPACITY: u64 = 70_368_744_177_664;
 const NEW_ROOT: u64 = 116_444_736_000_000_000;
 
 /// A tree whose changes are kept in a file.
-pub type KeptTree = JournaledTree<NodeTree, DiskFile>;
+pub type KeptTree<'a> = JournaledTree<NodeTree, DiskFile<'a>>;
 
 /// What a share's files are under.
 #[derive(Clone, Copy, Debug)]
@@ -63,7 +63,12 @@ impl Space {
 }
 
 // A new tree, in a file that has nothing.
-fn begin(alloc: Global, file: DiskFile, seed: u64, space: Space) -> Result<KeptTree, StartFault>
+fn begin<'a>(
+    alloc: Global,
+    file: DiskFile<'a>,
+    seed: u64,
+    space: Space,
+) -> Result<KeptTree<'a>, StartFault>
     requires { file.bytes ≡ [] }
     ensures { IfOk result (λ tree. tree.content ≡ new_content_within space.limits space.created space.capacity) }
 {
@@ -77,14 +82,14 @@ fn begin(alloc: Global, file: DiskFile, seed: u64, space: Space) -> Result<KeptT
 }
 
 // The tree of the files that were recovered. Behind its whole batches the journal has nothing.
-fn go_on(
+fn go_on<'a>(
     alloc: Global,
-    file: DiskFile,
+    file: DiskFile<'a>,
     chain: Chain,
     files: HeldFiles,
     numbers: &[EntryNo],
     space: Space,
-) -> Result<KeptTree, StartFault>
+) -> Result<KeptTree<'a>, StartFault>
     requires read { IsReadUpTo chain.first file.bytes files (length file.bytes) chain.number chain.seed }
     requires numbers { HasAll files numbers.now }
     ensures good { IfOk result (λ tree. GoodContent tree.content) }
@@ -105,7 +110,7 @@ fn go_on(
 }
 
 // Removes what is marked, and keeps that.
-fn keep_unmarked(tree: &mut KeptTree, numbers: &[EntryNo]) -> Result<(), StartFault>
+fn keep_unmarked(tree: &mut KeptTree<'_>, numbers: &[EntryNo]) -> Result<(), StartFault>
     requires good { GoodContent tree.old.content }
     requires lawful { AllByRecursion IsLawfulRow tree.old.content.rows }
     requires numbers { HasAll (files_of tree.old.content) numbers.now }
@@ -125,13 +130,13 @@ fn keep_unmarked(tree: &mut KeptTree, numbers: &[EntryNo]) -> Result<(), StartFa
 }
 
 // Goes on with the files that were recovered. Behind its whole batches the journal has nothing.
-fn go_on_unmarked(
+fn go_on_unmarked<'a>(
     alloc: Global,
-    file: DiskFile,
+    file: DiskFile<'a>,
     first: u64,
     found: Recovered,
     space: Space,
-) -> Result<KeptTree, StartFault>
+) -> Result<KeptTree<'a>, StartFault>
     requires read { IsReadUpTo first file.bytes found.files (length file.bytes) found.number found.seed }
     ensures unmarked { IfOk result (λ tree. UnmarkedTree tree.content) }
     ensures files { IfOk result (λ tree. HasUnmarked found.files tree.content) }
@@ -158,7 +163,7 @@ fn go_on_unmarked(
 ///
 /// [`StartFault::Journal`] where the journal is damaged, or no share can have what it says, [`StartFault::Unread`] where a
 /// read is refused, and [`StartFault::NoMemory`].
-pub fn read(alloc: Global, file: &mut DiskFile, seed: u64) -> Result<Recovered, StartFault>
+pub fn read(alloc: Global, file: &mut DiskFile<'_>, seed: u64) -> Result<Recovered, StartFault>
     requires { file.old.bytes ≡ [] }
     ensures files { IfOk result (λ found. found.files ≡ recovered seed file.new.bytes) }
     ensures read { IfOk result (λ found.
@@ -185,13 +190,13 @@ pub fn read(alloc: Global, file: &mut DiskFile, seed: u64) -> Result<Recovered, 
 /// - [`StartFault::Marked`] where a folder is marked that has entries.
 /// - [`StartFault::Unwritten`] where the file can't be cut or written.
 /// - [`StartFault::NoMemory`] where an allocation is refused.
-pub fn start(
+pub fn start<'a>(
     alloc: Global,
-    file: DiskFile,
+    file: DiskFile<'a>,
     seed: u64,
     found: Recovered,
     space: Space,
-) -> Result<KeptTree, StartFault>
+) -> Result<KeptTree<'a>, StartFault>
     requires read { IsReadUpTo seed file.bytes found.files found.whole found.number found.seed }
     ensures unmarked { IfOk result (λ tree. UnmarkedTree tree.content) }
     ensures new { IfOk result (λ tree. found.whole ≡ 0 →

@@ -273,7 +273,7 @@ agrees_moved content files d d' n parts a good free marked replaced others =
           (sym (numbers_after content n q parts from entry (target content n parts) can refl) ∙ h);
     }
 
-none_from : (rows : List Row) (q next : ℕ) → AreBelow rows next → next ≤ q → numbered rows q ≡ None
+pub none_from : (rows : List Row) (q next : ℕ) → AreBelow rows next → next ≤ q → numbered rows q ≡ None
 none_from [] q next b h = refl
 none_from (row ∷ rows) q next b h = let below = b.0 in grind (arith, nat_tests, none_from rows q next b.1 h, below, h)
 

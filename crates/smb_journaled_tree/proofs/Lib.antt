@@ -7,3 +7,6 @@ pub mod Settling
 pub mod Settled
 pub mod Beginning
 pub mod Noting
+pub mod Besides
+pub mod Bringing
+pub mod Slices

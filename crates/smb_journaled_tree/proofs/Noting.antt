@@ -9,6 +9,7 @@ use Rattle.smb_files.specs.Contents.{about_of, parent_number}
 use Rattle.smb_files.specs.Laws.{entry_change}
 use Rattle.smb_changes.specs.Batches.{back}
 use Rattle.smb_journaled_tree.specs.declared.slots.Slots.{Slots}
+use Rattle.smb_journaled_tree.specs.Renewal.{RenewalState}
 use Rattle.smb_journaled_tree.specs.Kept.{change_seen, IsNoted, IsKept}
 
 -- the change by which an entry is as it is seen is the one by which it is as it is
@@ -30,8 +31,8 @@ pub noted_as : (content settled : Content) (pending same : List ℕ) (slots : Sl
     IsNoted content settled pending slots entries → IsNoted content settled same slots entries
 noted_as content settled pending same slots entries e k = subst (λ (l : List ℕ). IsNoted content settled l slots entries) (sym e) k
 
-pub kept_as : (content settled : Content) (bytes : List ℕ) (torn : Option ℕ) (first number seed : ℕ) (pending same : List ℕ) (slots : Slots) (entries : ℕ) →
-    same ≡ pending → IsKept content settled bytes torn first number seed pending slots entries →
-    IsKept content settled bytes torn first number seed same slots entries
-kept_as content settled bytes torn first number seed pending same slots entries e k =
-    subst (λ (l : List ℕ). IsKept content settled bytes torn first number seed l slots entries) (sym e) k
+pub kept_as : (content settled : Content) (bytes : List ℕ) (torn : Option ℕ) (first number seed : ℕ) (pending same : List ℕ) (slots : Slots) (entries : ℕ) (renewal : Option RenewalState) →
+    same ≡ pending → IsKept content settled bytes torn first number seed pending slots entries renewal →
+    IsKept content settled bytes torn first number seed same slots entries renewal
+kept_as content settled bytes torn first number seed pending same slots entries renewal e k =
+    subst (λ (l : List ℕ). IsKept content settled bytes torn first number seed l slots entries renewal) (sym e) k

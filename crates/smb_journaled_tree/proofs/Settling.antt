@@ -1,6 +1,6 @@
 -- What is written, and what is left of it.
 use Rattle.std.proofs.Common.{◌≡◌, inl, inr, ℕ, suc, ◌+◌, ◌-◌, ◌*◌, ◌^◌, ◌<◌, ◌≤◌, List, [], ◌∷◌, ◌++◌, length, take}
-use Rattle.std.proofs.Common.{replicate, true, false, nat_le, not, refl, sym, ap, arith, ◌∙◌, append_assoc, append-nil}
+use Rattle.std.proofs.Common.{replicate, true, false, nat_le, not, refl, sym, ap, subst, arith, ◌∙◌, append_assoc, append-nil}
 use Rattle.std.proofs.Common.{length-append, length-take, add-zero}
 use Rattle.std.proofs.lemmas.Grind.{flat_map-append}
 use Rattle.std.proofs.lemmas.List.{take_all, take_at, take-take}
@@ -17,7 +17,7 @@ use Rattle.smb_changes.specs.Crash.{IsWritable, IsBatch, whole_in}
 use Rattle.smb_changes.proofs.Cuts.{batches_in-cut, whole_in-few, length-batch, take_batch}
 use Rattle.smb_changes.proofs.Damage.{rest_of-cut}
 use Rattle.smb_journaled_tree.specs.Journal.{JournalState, AddsPart, KeepsFiles, LeavesOneOf}
-use Rattle.smb_journaled_tree.specs.Written.{IsWritten, last_seed}
+use Rattle.smb_journaled_tree.specs.Written.{AreBatches, IsWritten, last_seed}
 use Rattle.smb_journaled_tree.proofs.Keeping.{replayed-append}
 
 -- the files that batches leave
@@ -109,14 +109,11 @@ take_both xs ys n k h =
     let t = take_less (n - length xs) k ys in
     (t.0, take_batch xs (take k ys) n h ∙ ap (λ (l : List ℕ). xs ++ l) t.1 ∙ sym (take-append-add xs ys t.0), t.2)
 
-module _ (settled content : Content) (bytes pending : List ℕ) (first number seed : ℕ) (changes : List Change) (w : IsWritten settled bytes first number seed) (each : AllByRecursion IsWritable changes) (are : pending ≡ spelled changes) (short : length pending < 256 ^ 8) where
-  abbrev more : List (List Change)
-  more = w.batches ++ changes ∷ []
-
-  more_are : AllByRecursion IsBatch more
+module _ (files : Files) (bytes pending : List ℕ) (first number seed : ℕ) (changes : List Change) (w : AreBatches files bytes first number seed) (each : AllByRecursion IsWritable changes) (are : pending ≡ spelled changes) (short : length pending < 256 ^ 8) where
+  more_are : AllByRecursion IsBatch (w.batches ++ changes ∷ [])
   more_are = all_push IsBatch w.batches changes w.each (record { each = each; short = omega (arith, short, ap (length {A = ℕ}) are) })
 
-  more_spelled : bytes ++ batch seed number pending ≡ written_from first 1 more
+  more_spelled : bytes ++ batch seed number pending ≡ written_from first 1 (w.batches ++ changes ∷ [])
   more_spelled =
       let place : number ≡ 1 + length w.batches = omega (arith, w.counted) in
       let last : ℕ = last_seed first w.batches in
@@ -124,18 +121,32 @@ module _ (settled content : Content) (bytes pending : List ℕ) (first number se
       ∙ ap (λ (l : List ℕ). written_from first 1 w.batches ++ l) (ap (λ (s : ℕ). batch s number pending) w.chained ∙ ap (λ (k : ℕ). batch last k pending) place ∙ ap (batch last (1 + length w.batches)) are ∙ sym (append-nil (batch last (1 + length w.batches) (spelled changes))))
       ∙ sym (written_from-append w.batches (changes ∷ []) first 1)
 
-  pub written_more : files_of content ≡ replayed (files_of settled) changes → IsWritten content (bytes ++ batch seed number pending) first (number + 1) (check seed pending)
-  written_more replays = record {
-    batches = more;
+  -- one batch more makes the files that its changes make of those before
+  pub batches_more : AreBatches (replayed files changes) (bytes ++ batch seed number pending) first (number + 1) (check seed pending)
+  batches_more = record {
+    batches = w.batches ++ changes ∷ [];
     each = more_are;
     spelled_are = more_spelled;
     counted = omega (arith, w.counted, length-append w.batches (changes ∷ []));
     chained = ap (λ (s : ℕ). check s pending) w.chained ∙ ap (check (last_seed first w.batches)) are ∙ sym (last_seed-more w.batches changes first);
-    keeps = joined w.batches changes ∙ ap (λ files. replayed files changes) w.keeps ∙ sym replays;
+    keeps = joined w.batches changes ∙ ap (λ (f : Files). replayed f changes) w.keeps;
   }
 
   pub number_fits : length (bytes ++ batch seed number pending) < 2 ^ 64 → number + 1 < 2 ^ 64
-  number_fits h = omega (arith, w.counted, h, ap (length {A = ℕ}) more_spelled, long_batches more first 1, length-append w.batches (changes ∷ []))
+  number_fits h = omega (arith, w.counted, h, ap (length {A = ℕ}) more_spelled, long_batches (w.batches ++ changes ∷ []) first 1, length-append w.batches (changes ∷ []))
+
+module _ (settled content : Content) (bytes pending : List ℕ) (first number seed : ℕ) (changes : List Change) (w : IsWritten settled bytes first number seed) (each : AllByRecursion IsWritable changes) (are : pending ≡ spelled changes) (short : length pending < 256 ^ 8) where
+  abbrev more : List (List Change)
+  more = w.batches ++ changes ∷ []
+
+  all_are : AllByRecursion IsBatch more
+  all_are = more_are (files_of settled) bytes pending first number seed changes w each are short
+
+  all_spelled : bytes ++ batch seed number pending ≡ written_from first 1 more
+  all_spelled = more_spelled (files_of settled) bytes pending first number seed changes w each are short
+
+  pub written_more : files_of content ≡ replayed (files_of settled) changes → IsWritten content (bytes ++ batch seed number pending) first (number + 1) (check seed pending)
+  written_more replays = subst (λ (f : Files). AreBatches f (bytes ++ batch seed number pending) first (number + 1) (check seed pending)) (sym replays) (batches_more (files_of settled) bytes pending first number seed changes w each are short)
 
   -- a batch that is not all there is none
   pub keeps_cut : (n count : ℕ) → length bytes ≤ n → n < length (bytes ++ batch seed number pending) →
@@ -143,13 +154,13 @@ module _ (settled content : Content) (bytes pending : List ℕ) (first number se
       × (is_damaged first (take n (bytes ++ batch seed number pending) ++ replicate count 0) ≡ false)
   keeps_cut n count h l =
       let same : take n (bytes ++ batch seed number pending) ++ replicate count 0 ≡ take n (written_from first 1 more) ++ replicate count 0 =
-      ap (λ (l : List ℕ). take n l ++ replicate count 0) more_spelled in
+      ap (λ (l : List ℕ). take n l ++ replicate count 0) all_spelled in
       let long : length (written_from first 1 w.batches) ≤ n = omega (arith, h, ap (length {A = ℕ}) w.spelled_are) in
-      let less : n < length (written_from first 1 more) = omega (arith, l, ap (length {A = ℕ}) more_spelled) in
+      let less : n < length (written_from first 1 more) = omega (arith, l, ap (length {A = ℕ}) all_spelled) in
       let all : take (whole_in first 1 more n) more ≡ w.batches =
       ap (λ (m : ℕ). take m more) (whole_in-but_last w.batches changes first 1 n long less) ∙ take_at w.batches (changes ∷ []) (length w.batches) refl in (
-        ap (recovered first) same ∙ read_of first more n count more_are ∙ ap files_left all ∙ w.keeps,
-        ap (is_damaged first) same ∙ undamaged first more n count more_are,
+        ap (recovered first) same ∙ read_of first more n count all_are ∙ ap files_left all ∙ w.keeps,
+        ap (is_damaged first) same ∙ undamaged first more n count all_are,
       )
 
   -- nor is one of which a part was added

@@ -15,6 +15,7 @@ use Rattle.smb_journaled_tree.specs.declared.slots.Slots.{Slots}
 use Rattle.smb_journaled_tree.specs.Journal.{KeepsFiles}
 use Rattle.smb_journaled_tree.specs.Slots.{slot_of, is_in, AreDirty}
 use Rattle.smb_journaled_tree.specs.Written.{IsWritten}
+use Rattle.smb_journaled_tree.specs.Renewal.{RenewalState, IsRenewed}
 
 -- an entry that is not dirty is that of the content; none has a number that is not given yet; and of one that is there the
 -- bytes are
@@ -64,7 +65,8 @@ pub record IsSettled (settled : Content) (bytes : List ℕ) (torn : Option ℕ) 
   pub long : length (whole_bytes torn bytes) ≡ whole_size torn bytes
   pub left : KeepsFiles settled first (whole_size torn bytes) bytes
 
--- both
-pub record IsKept (content settled : Content) (bytes : List ℕ) (torn : Option ℕ) (first number seed : ℕ) (pending : List ℕ) (slots : Slots) (entries : ℕ) : Type 0 where
+-- both, and what a journal that is written anew keeps
+pub record IsKept (content settled : Content) (bytes : List ℕ) (torn : Option ℕ) (first number seed : ℕ) (pending : List ℕ) (slots : Slots) (entries : ℕ) (renewal : Option RenewalState) : Type 0 where
   pub journal : IsSettled settled bytes torn first number seed
   pub noted : IsNoted content settled pending slots entries
+  pub renewed : IsRenewed (files_of settled) renewal

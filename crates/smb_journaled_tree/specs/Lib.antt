@@ -3,3 +3,4 @@ pub mod Written
 pub mod Slots
 pub mod Kept
 pub mod Room
+pub mod Renewal

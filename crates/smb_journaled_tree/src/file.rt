@@ -1,6 +1,6 @@
 //! Where a journal's bytes are kept.
 
-ghost use Rattle.std.specs.Prelude.{◌≡◌, ◌++◌, ◌≤◌, true, [], OnOk, OnErr, length, take};
+ghost use Rattle.std.specs.Prelude.{◌≡◌, ◌++◌, ◌≤◌, true, [], OnOk, OnErr, IfSome, length, take};
 ghost use Rattle.smb_journaled_tree.specs.Journal.{AddsPart};
 ghost use Rattle.smb_journaled_tree.specs.declared.file.JournalFault.TheVariants.{NoMemory};
 
@@ -57,6 +57,9 @@ pub trait JournalFile {
     /// How many bytes there is room for behind them, where no other program takes it.
     ghost room: { Self → ℕ };
 
+    /// How many of its bytes are known to last.
+    ghost lasting: { Self → ℕ };
+
     /// How many bytes it has.
     fn len(&self) -> u64
         ensures { result ≡ length (held self.now) };
@@ -79,13 +82,36 @@ pub trait JournalFile {
 
     /// Waits until what was appended lasts. It changes no byte.
     fn sync(&mut self) -> Result<(), JournalFault>
+        ensures held { held self.new ≡ held self.old }
+        ensures lasts { OnOk result (lasting self.new ≡ length (held self.new)) };
+
+    /// An empty file that may take the place of this one, and whose first batch is to have this seed. None where this one
+    /// has not many more bytes than `needed`, the fewest that its files need, and where none can be made.
+    fn make_next(&mut self, needed: u64, seed: u64) -> Option<Self>
+        ensures held { held self.new ≡ held self.old }
+        ensures empty { IfSome result (λ next. held next ≡ []) };
+
+    /// Gives its place to a file that it made, all of whose bytes last, and has that one's bytes. After an error it has
+    /// its own.
+    fn replace(&mut self, next: Self) -> Result<(), JournalFault>
+        requires { lasting next ≡ length (held next) }
+        ensures ok { OnOk result (held self.new ≡ held next) }
+        ensures err { OnErr result (held self.new ≡ held self.old) };
+
+    /// Whether a file that was made so is to be written to now, or others are to be served first.
+    fn is_due(&self) -> bool;
+
+    /// Takes away a file that it made.
+    fn drop_next(&mut self, next: Self)
         ensures { held self.new ≡ held self.old };
 }
 
 /// A journal's file in memory, for trials. It has room for all bytes that one can have.
 #[derive(Drop)]
 pub struct MemoryFile {
+    alloc: Global,
     bytes: Vec<u8>,
+    renews: bool,
 }
 
 impl Model for MemoryFile {
@@ -102,7 +128,20 @@ impl MemoryFile {
         ensures { result ≡ [] }
     {
         MemoryFile {
+            alloc,
             bytes: Vec::new(alloc),
+            renews: false,
+        }
+    }
+
+    /// An empty file, which is written anew where it has more bytes than its files need at least.
+    pub fn renewing(alloc: Global) -> MemoryFile
+        ensures { result ≡ [] }
+    {
+        MemoryFile {
+            alloc,
+            bytes: Vec::new(alloc),
+            renews: true,
         }
     }
 
@@ -118,6 +157,8 @@ impl JournalFile for MemoryFile {
     ghost held = { λ bytes. bytes };
 
     ghost room = { λ _. 18446744073709551615 };
+
+    ghost lasting = { λ bytes. length bytes };
 
     fn len(&self) -> u64 {
         self.bytes.len() as u64
@@ -145,4 +186,22 @@ impl JournalFile for MemoryFile {
     fn sync(&mut self) -> Result<(), JournalFault> {
         Ok(())
     }
+
+    fn make_next(&mut self, needed: u64, _seed: u64) -> Option<MemoryFile> {
+        if !self.renews || (self.bytes.len() as u64) <= needed {
+            return None;
+        }
+        Some(MemoryFile::renewing(self.alloc))
+    }
+
+    fn replace(&mut self, next: MemoryFile) -> Result<(), JournalFault> {
+        self.bytes = next.bytes;
+        Ok(())
+    }
+
+    fn is_due(&self) -> bool {
+        true
+    }
+
+    fn drop_next(&mut self, _next: MemoryFile) {}
 }

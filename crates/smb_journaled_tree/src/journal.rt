@@ -6,6 +6,8 @@ ghost use Rattle.smb_journaled_tree.specs.Journal.{KeepsFiles, LeavesOneOf};
 use super::faults::{add_fault, name_of, parent_of, size_fault, write_fault};
 use super::file::{JournalFault, JournalFile};
 use super::notes::{begin_file, note_dirty};
+use super::renewal::Renewal;
+use super::renewing::{begin_renewal, follow, go_on_renewal, replace_file};
 use super::room::note_change;
 use super::slots::{Slots, slots_of};
 use super::torn::{append, mend};
@@ -36,6 +38,7 @@ pub struct Chain {
 /// dirty, and hands what is noted to the file without a further copy.
 #[derive(Drop)]
 pub struct JournaledTree<T: Tree + Drop, J: JournalFile + Drop> {
+    alloc: Global,
     tree: T,
     file: J,
     // How many bytes of the file are whole batches, where some of another one are behind these.
@@ -51,6 +54,8 @@ pub struct JournaledTree<T: Tree + Drop, J: JournalFile + Drop> {
     entries: usize,
     // The tree as it was when it was settled last.
     settled: Snapshot<T>,
+    // The journal that is written anew, where one is.
+    renewal: Option<Renewal<J>>,
 }
 
 impl<T: Tree + Drop, J: JournalFile + Drop> Model for JournaledTree<T, J> {
@@ -62,7 +67,7 @@ impl<T: Tree + Drop, J: JournalFile + Drop> Model for JournaledTree<T, J> {
 
     ghost view = { λ j. record { content = T.content j.tree; settled = T.content j.settled.value; seed = j.first; whole = whole_size j.torn (J.held j.file); bytes = J.held j.file } };
 
-    ghost invariant = { λ j. IsKept (T.content j.tree) (T.content j.settled.value) (J.held j.file) j.torn j.first j.number j.seed (changes_in_batch j.pending) j.slots j.entries };
+    ghost invariant = { λ j. IsKept (T.content j.tree) (T.content j.settled.value) (J.held j.file) j.torn j.first j.number j.seed (changes_in_batch j.pending) j.slots j.entries j.renewal };
 }
 
 impl<T: Tree + Drop, J: JournalFile + Drop> JournaledTree<T, J> {
@@ -98,6 +103,7 @@ impl<T: Tree + Drop, J: JournalFile + Drop> JournaledTree<T, J> {
         let slots = slots_of(alloc, numbers)?;
         let settled = Snapshot::of(&tree);
         Ok(JournaledTree {
+            alloc,
             tree,
             file,
             torn: None,
@@ -108,6 +114,7 @@ impl<T: Tree + Drop, J: JournalFile + Drop> JournaledTree<T, J> {
             slots,
             entries,
             settled,
+            renewal: None,
         })
     }
 
@@ -171,11 +178,62 @@ impl<T: Tree + Drop, J: JournalFile + Drop> JournaledTree<T, J> {
         }
         // For the proof alone: the number does not pass its type, since each batch has bytes.
         let _written = self.file.len();
+        self.pending.truncate(length);
+        follow(&mut self.file, &mut self.renewal, &mut self.pending);
         self.pending.clear();
         self.number += 1;
         self.seed = seed;
         self.settled = Snapshot::of(&self.tree);
         Ok(())
+    }
+
+    /// Writes the journal anew beside itself, where its file has many more bytes than its files need: each call writes a
+    /// slice, of about 1 MiB, where one is due, and waits until that lasts, and each `settle` between two calls writes to
+    /// both. Once all is
+    /// written the new file takes the old one's place. Where it can't be written the old one stays.
+    pub fn renew(&mut self)
+        requires { self.old.settled ≡ self.old.content }
+        ensures content { self.new.content ≡ self.old.content }
+        ensures settled { self.new.settled ≡ self.old.settled }
+    {
+        let Some(renewal) = self.renewal.take() else {
+            self.renewal = begin_renewal(
+                self.alloc,
+                &self.tree,
+                &mut self.file,
+                self.entries,
+                self.seed,
+            );
+            return;
+        };
+        if !renewal.is_due() {
+            self.renewal = Some(renewal);
+            return;
+        }
+        let Some((renewal, all)) = go_on_renewal(&self.tree, &mut self.file, renewal, self.entries)
+        else {
+            return;
+        };
+        if !all {
+            self.renewal = Some(renewal);
+            return;
+        }
+        if let Some(chain) = replace_file(&mut self.file, renewal) {
+            self.torn = None;
+            self.first = chain.first;
+            self.number = chain.number;
+            self.seed = chain.seed;
+        }
+    }
+
+    /// Takes a journal away that is written anew, where there is one.
+    pub fn give_up_renewal(&mut self)
+        ensures { self.new ≡ self.old }
+    {
+        if let Some(renewal) = self.renewal.take() {
+            let (made, _) = renewal.finish();
+            self.file.drop_next(made);
+        }
     }
 
     /// The journal's file.
@@ -381,8 +439,14 @@ impl<T: Tree + Drop, J: JournalFile + Drop> Tree for JournaledTree<T, J> {
 
     fn keep_changes(&mut self) -> Result<(), Reason> {
         match self.settle() {
-            Ok(()) => Ok(()),
-            Err(fault) => Err(Reason::from(fault)),
+            Ok(()) => {
+                self.renew();
+                Ok(())
+            }
+            Err(fault) => {
+                self.give_up_renewal();
+                Err(Reason::from(fault))
+            }
         }
     }
 }

@@ -11,6 +11,11 @@
 //! moves take no memory for the journal, and the margin of its room: the entries that they change are marked dirty, for
 //! which each has a slot from its addition on, and `settle` notes each of these as it then is.
 //!
+//! A journal that is much longer than its files need is written anew beside itself, a slice at a time, while changes go on
+//! (`JournaledTree::renew`): the entries in the order of their numbers, and between two slices each batch that the journal
+//! gets. So what is written of an entry is followed by all that changes it, and once all entries are written, both files
+//! keep the same (`specs/Renewal.antt`). Only then, and once all of it lasts, the new file takes the old one's place.
+//!
 //! [`MemoryFile`] is a journal's file in memory, for trials.
 #![tactic(auto)]
 
@@ -18,7 +23,11 @@ mod faults;
 mod file;
 mod journal;
 mod notes;
+mod place;
+mod renewal;
+mod renewing;
 mod room;
+mod slice;
 mod slots;
 mod torn;
 

@@ -37,8 +37,8 @@ fn change_of<'a>(number: EntryNo, view: Option<EntryView<'a>>) -> Change<'a>
     }
 }
 
-// Notes an entry as it is, and returns whether it is there.
-fn note_entry<T: Tree>(
+/// Notes an entry as it is, and returns whether it is there.
+pub fn note_entry<T: Tree>(
     tree: &T,
     pending: &mut OpenBatch,
     number: EntryNo,

@@ -26,8 +26,8 @@ fn room_for(length: usize, entries: usize) -> Option<u64>
     margin.checked_add(length as u64)
 }
 
-// Whether a journal has room for `length` bytes of changes, and for what is never refused besides.
-fn has_room<J: JournalFile>(file: &mut J, length: usize, entries: usize) -> bool
+/// Whether a journal has room for `length` bytes of changes, and for what is never refused besides.
+pub fn has_room<J: JournalFile>(file: &mut J, length: usize, entries: usize) -> bool
     ensures room { result ≡ true → length + margin entries ≤ J.room file.new }
     ensures held { J.held file.new ≡ J.held file.old }
 {

@@ -12,4 +12,5 @@ invariant_of-result g c = rw c.of-settled.ensures (record {
   };
   noted = keeps_settled (g.T.Tree.content c.args.tree) _ _ _ c.requires.good c.requires.counted
       (λ q row h. c.in_ok-slots.ensures.all q (c.requires.all q row h)) c.in_ok-slots.ensures.clean c.new.ensures;
+  renewed = tt;
 })

@@ -15,6 +15,7 @@ invariant_of-self g c =
     record {
       journal = c.self.invariant.journal;
       noted = keeps_slotted content _ _ _ _ _ c.self.invariant.noted _ _ _ next refl refl (c.in-Err.ensures.dirty, c.in-Err.ensures.others);
+      renewed = c.self.invariant.renewed;
     }
 
 pub invariant_of-self-in-Err-note_change : goal.invariant_of-self-in-Err-note_change
@@ -26,6 +27,7 @@ invariant_of-self-in-Err-note_change g c =
       journal = rw (c.in-Err-note_change.ensures.held) c.self.invariant.journal;
       noted = keeps_slotted content _ _ _ _ _ c.self.invariant.noted _ _ _ next refl c.in-Err-note_change.ensures.err
           (c.in-Ok.ensures.dirty, c.in-Ok.ensures.others);
+      renewed = c.self.invariant.renewed;
     }
 
 pub invariant_of-self-in-Err-add : goal.invariant_of-self-in-Err-add
@@ -38,6 +40,7 @@ invariant_of-self-in-Err-add g c =
       journal = rw (c.in-Ok-note_change.ensures.held) c.self.invariant.journal;
       noted = keeps_slotted content _ _ _ _ _ c.self.invariant.noted _ _ _ next c.in-Err-add.ensures.err back
           (c.in-Ok.ensures.dirty, c.in-Ok.ensures.others);
+      renewed = c.self.invariant.renewed;
     }
 
 pub invariant_of-self-in-Ok-add : goal.invariant_of-self-in-Ok-add
@@ -51,4 +54,5 @@ invariant_of-self-in-Ok-add g c =
           (omega (arith, c.len-few.ensures.len, c.len-few.ensures.few)) c.in-Ok-add.ensures.lawful c.in-Ok-add.ensures.ok
           (rw (next, c.parent_of.ensures, c.of.ensures, c.name_of.ensures) refl) c.in-Ok-note_change.ensures.writable
           c.in-Ok-note_change.ensures.ok (rw (← next) (c.in-Ok.ensures.dirty, c.in-Ok.ensures.others)) (rw (← next) c.in-Ok.ensures.ok);
+      renewed = c.self.invariant.renewed;
     }

@@ -10,6 +10,7 @@ invariant_of-self-then-other-number g c =
     record {
       journal = c.self.invariant.journal;
       noted = keeps_moved_over (g.T.Tree.content c.self.inside.tree) _ _ _ _ _ _ c.args.number (parts_of c.args.path.now) c.self.invariant.noted c.in-Ok.ensures.lawful c.in-Ok.ensures.ok _ c.in-Some.other (sym c.find-there.ensures ∙ c.in-Some.is) apart (c.mark.ensures.dirty, c.mark.ensures.others) (c.mark-in-Some.ensures.dirty, c.mark-in-Some.ensures.others);
+      renewed = c.self.invariant.renewed;
     }
 
 pub invariant_of-self-else-other-number : goal.invariant_of-self-else-other-number
@@ -19,6 +20,7 @@ invariant_of-self-else-other-number g c =
       journal = c.self.invariant.journal;
       noted = keeps_moved_alone (g.T.Tree.content c.self.inside.tree) _ _ _ _ _ _ c.args.number (parts_of c.args.path.now) c.self.invariant.noted c.in-Ok.ensures.lawful c.in-Ok.ensures.ok
           (λ other h. same_one _ c.in-Some.other other c.args.number (sym c.find-there.ensures ∙ c.in-Some.is) h same) (c.mark.ensures.dirty, c.mark.ensures.others);
+      renewed = c.self.invariant.renewed;
     }
 
 pub invariant_of-self-in_default : goal.invariant_of-self-in_default
@@ -26,4 +28,5 @@ invariant_of-self-in_default g c = record {
   journal = c.self.invariant.journal;
   noted = keeps_moved_alone (g.T.Tree.content c.self.inside.tree) _ _ _ _ _ _ c.args.number (parts_of c.args.path.now) c.self.invariant.noted c.in-Ok.ensures.lawful c.in-Ok.ensures.ok
       (λ other h. no_one _ other c.args.number (sym c.find-there.ensures ∙ c.in_default.is) h) (c.mark.ensures.dirty, c.mark.ensures.others);
+  renewed = c.self.invariant.renewed;
 }

@@ -6,4 +6,5 @@ invariant_of-self-2 g c = record {
   journal = c.self.invariant.journal;
   noted = keeps_removed (g.T.Tree.content c.self.inside.tree) _ _ _ _ _ c.self.invariant.noted _ c.args.number c.requires
       c.in-Ok.ensures.lawful c.in-Ok.ensures.ok (c.mark.ensures.dirty, c.mark.ensures.others);
+  renewed = c.self.invariant.renewed;
 }
