@@ -80,7 +80,8 @@ pub struct JournalFileFault {
     fault: FileFault,
 }
 
-/// Writes what is printed of a share that cannot be kept, where there is memory and the configuration is none of its faults.
+/// Writes what is printed of a share that cannot be kept, where there is memory and the configuration is none of its
+/// faults.
 fn report_kept<E: Write>(fault: &KeptFault, errors: &mut E) {
     let _ = match fault {
         KeptFault::NoMemory | KeptFault::BadConfig => Ok(()),
@@ -91,7 +92,8 @@ fn report_kept<E: Write>(fault: &KeptFault, errors: &mut E) {
     };
 }
 
-/// What a share that cannot be kept is among the faults of commands, where it is one: want of memory, or a configuration.
+/// What a share that cannot be kept is among the faults of commands, where it is one: want of memory, or a
+/// configuration.
 fn command_fault_of(fault: &KeptFault) -> Option<CommandFault> {
     match fault {
         KeptFault::NoMemory
@@ -102,7 +104,8 @@ fn command_fault_of(fault: &KeptFault) -> Option<CommandFault> {
     }
 }
 
-/// What a share that cannot be kept is among the faults of recordings, where it is that their file can't be read or written.
+/// What a share that cannot be kept is among the faults of recordings, where it is that their file can't be read or
+/// written.
 fn file_fault_of(fault: &KeptFault) -> Option<JournalFault> {
     match fault {
         KeptFault::Recording(JournalFault::Unread(reason)) => Some(JournalFault::Unread(*reason)),
@@ -215,7 +218,8 @@ impl Fault {
         }
     }
 
-    /// Writes what is printed of it, and gives the exit status: 3 for want of memory, else 1. That the writer fails is passed over.
+    /// Writes what is printed of it, and gives the exit status: 3 for want of memory, else 1. That the writer fails is
+    /// passed over.
     pub fn report<E: Write>(&self, alloc: Global, detail: Detail<'_>, errors: &mut E) -> u8 {
         match self {
             Fault::Command(fault) => fault.report(alloc, detail, errors),

@@ -4,7 +4,8 @@
 //! and the accounts of a text are asked for here; [`say_notices`] says on standard error who can't log in, and what is
 //! not safe. [`say`] and [`StandardError`] write lines there with their [`Severity`].
 //!
-//! Its calls have no clauses: that they are safe and return is proved, and what they do is tested over the program (docs/TESTING.md).
+//! Its calls have no clauses: that they are safe and return is proved, and what they do is tested over the program
+//! (docs/TESTING.md).
 #![tactic(auto)]
 
 mod fault;

@@ -78,8 +78,8 @@ impl<'a> LogFile<'a> {
         }
     }
 
-    /// Goes on in the file that has the log's name, once the open one was moved or removed; where that can't be opened, in the
-    /// open one.
+    /// Goes on in the file that has the log's name, once the open one was moved or removed; where that can't be
+    /// opened, in the open one.
     fn follow_the_name(&mut self) {
         if self.is_within_line || !self.is_time_to_look() {
             return;

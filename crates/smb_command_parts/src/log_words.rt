@@ -15,8 +15,8 @@ pub struct LogWords<'a> {
     pub must: bool,
 }
 
-/// The log that the words ask for, of a share of these limits, which begins at a moment, and whose first line is written; None where
-/// they ask for none.
+/// The log that the words ask for, of a share of these limits, which begins at a moment, and whose first line is
+/// written; None where they ask for none.
 pub fn log_of<'a>(
     rt: &'a HostRuntime,
     words: Option<LogWords<'a>>,

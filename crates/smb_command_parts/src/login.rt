@@ -50,9 +50,9 @@ fn given_or_random(seed: Option<[u8; 16]>) -> Result<[u8; 16], CommandFault> {
     }
 }
 
-/// Who lets clients in by NTLM, as the words say: as an account, or as a guest where the configuration lets guests in. Where
-/// no seed is given it is one of the system's; accounts' sessions are signed as is usual, where neither words nor configuration
-/// say how.
+/// Who lets clients in by NTLM, as the words say: as an account, or as a guest where the configuration lets guests in.
+/// Where no seed is given it is one of the system's; accounts' sessions are signed as is usual, where neither words
+/// nor configuration say how.
 pub fn ntlm_of(
     alloc: Global,
     configuration: &Configuration,

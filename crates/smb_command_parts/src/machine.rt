@@ -34,7 +34,8 @@ pub fn memory(rt: &HostRuntime) -> Option<u64> {
     Some(kilobytes.saturating_mul(KILOBYTE))
 }
 
-/// How many files and connections the program may have open; None where there may be any number, or the system does not say it.
+/// How many files and connections the program may have open; None where there may be any number, or the system does
+/// not say it.
 pub fn descriptors(rt: &HostRuntime) -> Option<u64> {
     number_in(rt, RIGHTS, "Max open files")
 }

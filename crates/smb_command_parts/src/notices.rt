@@ -1,4 +1,5 @@
-//! What is said where all goes on: by `serve` who cannot log in and what is not safe, and of a recording that its last line is cut.
+//! What is said where all goes on: by `serve` who cannot log in and what is not safe, and of a recording that its last
+//! line is cut.
 
 use crate::machine::{descriptors, memory};
 use crate::standard_error::{Severity, say};
@@ -62,7 +63,8 @@ pub struct Entrance {
 }
 
 impl Entrance {
-    /// Who may come in by a configuration and so many accounts, which need not sign what they send, and what its share may want.
+    /// Who may come in by a configuration and so many accounts, which need not sign what they send, and what its share
+    /// may want.
     pub fn of(configuration: &Configuration, accounts: usize) -> Self {
         Entrance {
             guest: configuration.guest,
@@ -83,8 +85,8 @@ fn say_where(rt: &HostRuntime, holds: bool, line: &str) {
     }
 }
 
-/// Says on standard error where the files of a share may take more bytes than the machine has, and where the program may not have as
-/// many descriptors as clients may want. Nothing is said where the system does not say it.
+/// Says on standard error where the files of a share may take more bytes than the machine has, and where the program
+/// may not have as many descriptors as clients may want. Nothing is said where the system does not say it.
 fn say_wants(rt: &HostRuntime, capacity: u64, connections: u64) {
     if let Some(memory) = memory(rt)
         && capacity > memory

@@ -43,8 +43,8 @@ fn stream_of(value: &[u8]) -> Option<(u64, u64)> {
     Some((device.parse::<u64>().ok()?, inode.parse::<u64>().ok()?))
 }
 
-/// Whether the journal takes what is written on standard error: a program that a service starts has the variable too, and
-/// may have another standard error.
+/// Whether the journal takes what is written on standard error: a program that a service starts has the variable too,
+/// and may have another standard error.
 fn is_journal(rt: &HostRuntime) -> bool {
     let mut value = [0u8; LONGEST_STREAM];
     let Ok(length) = rt.var(STREAM, &mut value) else {

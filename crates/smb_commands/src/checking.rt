@@ -97,8 +97,8 @@ fn write_all<W: Write>(
     output.flush()
 }
 
-/// Prints what `serve` would serve by these texts, and for whom; standard error has what `serve` would say beside. A text that it
-/// would refuse is the fault that it would end with.
+/// Prints what `serve` would serve by these texts, and for whom; standard error has what `serve` would say beside. A
+/// text that it would refuse is the fault that it would end with.
 pub fn check(rt: &HostRuntime, texts: &Texts, login: Login) -> Result<(), Fault> {
     let alloc = rt.alloc();
     let configuration = Configuration::read(alloc, texts.config.as_str())?;

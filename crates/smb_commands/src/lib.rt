@@ -8,10 +8,12 @@
 //!    account          changes a file of accounts, or lists it
 //! ```
 //!
-//! A caller reads the words of a command and the texts of its files (smb_command_line), and hands them on. What ends a command is a
+//! A caller reads the words of a command and the texts of its files (smb_command_line), and hands them on. What ends a
+//! command is a
 //! `Fault` of smb_command_parts.
 //!
-//! Its calls have no clauses: that they are safe and return is proved, and what they do is tested over the program (docs/TESTING.md).
+//! Its calls have no clauses: that they are safe and return is proved, and what they do is tested over the program
+//! (docs/TESTING.md).
 #![tactic(auto)]
 
 mod account_change;

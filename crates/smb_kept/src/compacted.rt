@@ -1,13 +1,13 @@
 //! A journal that has nothing but the files that another one leaves.
 
 use crate::fault::KeptFault;
-use crate::first_line::first_line;
 use crate::journal_left::{JournalFiles, journal_files};
 use crate::kind::{Kind, kind_of};
 use crate::leaving::leave;
 use smb_changes::{Change, OpenBatch};
 use smb_engine::Tree;
 use smb_journal::Mailbox;
+use smb_journal_file::first_line;
 use smb_journal_start::Space;
 use smb_reason::Reason;
 use smb_tree::{EntryNo, EntryView};

@@ -4,7 +4,7 @@ use crate::fault::KeptFault;
 use smb_journal::{JournalFault, Lines};
 use std::fs::{File, OpenOptions, TryLockError};
 use std::io::ErrorKind;
-use std::os::unix::fs::OpenOptionsExt;
+use std::os::unix::fs::{MetadataExt, OpenOptionsExt};
 use std::path::Path;
 use std::{fs, io};
 
@@ -43,12 +43,27 @@ pub(crate) fn lock(file: File) -> Result<File, KeptFault> {
     }
 }
 
+/// Refuses a file that was opened under a name which is another one's by now: a program that has the journal wrote it anew
+/// before the lock.
+fn refuse_renamed(rt: &HostRuntime, path: &str, file: &File) -> Result<(), KeptFault> {
+    let held = file.metadata().map_err(fault_of_read)?;
+    match fs::metadata(rt, path) {
+        Ok(named) if (named.dev(), named.ino()) == (held.dev(), held.ino()) => Ok(()),
+        Ok(_) => Err(KeptFault::Recording(JournalFault::InUse)),
+        Err(error) => Err(fault_of_read(error)),
+    }
+}
+
 /// A journal that exists, which this program has to itself as long as it is open; None where there is none.
 pub(crate) fn open_journal(rt: &HostRuntime, path: &str) -> Result<Option<File>, KeptFault> {
     let mut options = OpenOptions::new();
     let _ = options.append(true).read(true);
     match options.open(rt, path) {
-        Ok(file) => Ok(Some(lock(file)?)),
+        Ok(file) => {
+            let held = lock(file)?;
+            refuse_renamed(rt, path, &held)?;
+            Ok(Some(held))
+        }
         Err(error) if error.kind() == ErrorKind::NotFound => Ok(None),
         Err(error) => Err(fault_of_read(error)),
     }

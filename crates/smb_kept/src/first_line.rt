@@ -3,12 +3,10 @@
 use crate::fault::KeptFault;
 use crate::files::{fault_of_read, fault_of_write};
 use crate::journal::{FileFault, JournalWords};
+use smb_journal_file::{FIRST, FIRST_BYTES, FIRST_DIGITS, first_line};
 use std::alloc::Global;
 use std::fs::File;
 use std::io::{Read, Write};
-
-/// What it begins with; behind it there are the seed of the first batch, in 16 digits of base 16, and a line feed.
-const FIRST: &[u8] = b"# smbshare journal 2 ";
 
 /// What the first line of every version begins with.
 const ANY_VERSION: &[u8] = b"# smbshare journal ";
@@ -19,22 +17,6 @@ const BEFORE: &[u8] = b"# smbshare changes 1 ";
 /// What the first line of a journal of events begins with.
 const OF_EVENTS: &[u8] = b"# smbshare journal 1 ";
 
-/// How many digits the seed has.
-const DIGITS: usize = 16;
-
-/// How many bytes the first line has.
-pub(crate) const FIRST_BYTES: usize = FIRST.len() + DIGITS + 1;
-
-/// The first line of a journal whose first batch has this seed.
-pub(crate) fn first_line(alloc: Global, seed: u64) -> Result<Vec<u8>, KeptFault> {
-    let mut line = Vec::with_capacity(alloc, FIRST_BYTES)?;
-    line.extend_from_slice(FIRST)?;
-    match write!(line, "{seed:016x}\n") {
-        Ok(()) => Ok(line),
-        Err(_) => Err(KeptFault::NoMemory),
-    }
-}
-
 /// Whether a byte is a digit of base 16, as it is written.
 fn is_digit(byte: u8) -> bool {
     matches!(byte, b'0'..=b'9' | b'a'..=b'f')
@@ -43,7 +25,7 @@ fn is_digit(byte: u8) -> bool {
 /// The seed in a first line; None where it is none.
 pub(crate) fn seed_in(line: &[u8]) -> Option<u64> {
     let digits = line.strip_prefix(FIRST)?.strip_suffix(b"\n")?;
-    if digits.len() != DIGITS || !digits.iter().all(|digit| is_digit(*digit)) {
+    if digits.len() != FIRST_DIGITS || !digits.iter().all(|digit| is_digit(*digit)) {
         return None;
     }
     let text = str::from_utf8(digits).ok()?;
@@ -56,7 +38,7 @@ pub(crate) fn is_begun(line: &[u8]) -> bool {
         return FIRST.starts_with(line);
     }
     match line.strip_prefix(FIRST) {
-        Some(digits) => digits.len() <= DIGITS && digits.iter().all(|digit| is_digit(*digit)),
+        Some(digits) => digits.len() <= FIRST_DIGITS && digits.iter().all(|digit| is_digit(*digit)),
         None => false,
     }
 }

@@ -7,11 +7,10 @@ use crate::fault::KeptFault;
 use crate::files::{
     cut, fault_of_read, give_name, lock, make_file, open_journal, remove_left, settle_name,
 };
-use crate::first_line::{FIRST_BYTES, is_begun, read_first, refused, seed_in, write_first};
+use crate::first_line::{is_begun, read_first, refused, seed_in, write_first};
 use crate::room::open_room;
-use crate::shortened::{Shortened, is_long, shorten};
 use smb_journal::JournalFault;
-use smb_journal_file::DiskFile;
+use smb_journal_file::{DiskFile, FIRST_BYTES, NextWords};
 use smb_journal_start::{KeptTree, Space, StartFault, read, start};
 use std::alloc::Global;
 use std::fs;
@@ -74,8 +73,8 @@ impl JournalWords<'_> {
         give_name(rt, self.path, path, self.settles)
     }
 
-    /// Takes the file away that a start left that was ended, where it is there. Where a program has it to itself it stays,
-    /// which is the fault.
+    /// Takes the file away that a start left that was ended, where it is there. Where a program has it to itself it
+    /// stays, which is the fault.
     pub fn remove_left(&self, rt: &HostRuntime) -> Result<(), KeptFault> {
         remove_left(rt, self.path)
     }
@@ -141,78 +140,45 @@ fn open(rt: &HostRuntime, words: JournalWords<'_>, seed: u64) -> Result<Opened, 
 
 /// A tree whose changes are kept in a journal.
 #[derive(Drop)]
-pub struct Kept {
-    pub tree: KeptTree,
+pub struct Kept<'a> {
+    pub tree: KeptTree<'a>,
     /// How many bytes of a cut last batch were left out.
     pub left_out: u64,
-    /// What came of it where the journal was too long.
-    pub shortened: Option<Shortened>,
 }
 
-/// The files that a journal keeps as a tree, and how many bytes its first line and its whole batches have.
-fn go_on_with(
-    rt: &HostRuntime,
+/// The files that a journal keeps, as a tree whose changes are kept there from now on, with the room of the file
+/// `room`. A journal that is not there is made, with this seed. Where it gets much longer than its files need it is
+/// written anew, beside the file of the path in `next`, once that is its own.
+pub fn keep_changes<'a>(
+    next: NextWords<'a>,
     words: JournalWords<'_>,
     room: &str,
     seed: u64,
     space: Space,
-) -> Result<(Kept, u64), KeptFault>
-    ensures unmarked { IfOk result (λ begun. UnmarkedTree begun.0.tree.content) }
-    ensures limits { IfOk result (λ begun. begun.0.tree.content.limits ≡ space.limits) }
-    ensures capacity { IfOk result (λ begun. begun.0.tree.content.capacity ≡ space.capacity) }
+) -> Result<Kept<'a>, KeptFault>
+    ensures unmarked { IfOk result (λ kept. UnmarkedTree kept.tree.content) }
+    ensures limits { IfOk result (λ kept. kept.tree.content.limits ≡ space.limits) }
+    ensures capacity { IfOk result (λ kept. kept.tree.content.capacity ≡ space.capacity) }
 {
+    let rt = next.rt;
     let alloc = rt.alloc();
     let Opened {
         file,
         seed,
         has_batches,
     } = open(rt, words, seed)?;
+    if words.path == next.path {
+        next.clear();
+    }
     let mut file = DiskFile::new(file, FIRST_BYTES as u64, words.settles, !has_batches);
     let found = match read(alloc, &mut file, seed) {
         Ok(found) => found,
         Err(fault) => return Err(KeptFault::of_start(fault)),
     };
-    let (left_out, whole) = (found.cut, found.whole.saturating_add(FIRST_BYTES as u64));
-    let file = file.with_room(open_room(rt, room)?);
-    let tree = match start(alloc, file, seed, found, space) {
-        Ok(tree) => tree,
-        Err(fault) => return Err(KeptFault::of_start(fault)),
-    };
-    let kept = Kept {
-        tree,
-        left_out,
-        shortened: None,
-    };
-    Ok((kept, whole))
-}
-
-/// The files that a journal keeps, as a tree whose changes are kept there from now on, with the room of the file
-/// `room`. A journal that is not there is made, with this seed. One that is much longer than its files need is first
-/// written anew, with this seed.
-pub fn keep_changes(
-    rt: &HostRuntime,
-    words: JournalWords<'_>,
-    room: &str,
-    seed: u64,
-    space: Space,
-) -> Result<Kept, KeptFault>
-    ensures unmarked { IfOk result (λ kept. UnmarkedTree kept.tree.content) }
-    ensures limits { IfOk result (λ kept. kept.tree.content.limits ≡ space.limits) }
-    ensures capacity { IfOk result (λ kept. kept.tree.content.capacity ≡ space.capacity) }
-{
-    let (mut kept, whole) = go_on_with(rt, words, room, seed, space)?;
-    if !is_long(rt.alloc(), &kept.tree, whole)? {
-        return Ok(kept);
+    let left_out = found.cut;
+    let file = file.with_room(open_room(rt, room)?).with_next(next);
+    match start(alloc, file, seed, found, space) {
+        Ok(tree) => Ok(Kept { tree, left_out }),
+        Err(fault) => Err(KeptFault::of_start(fault)),
     }
-    let shortened = shorten(rt, &kept.tree, words.path, whole, seed)?;
-    let left_out = kept.left_out;
-    if let Shortened::Done { .. } = shortened {
-        drop(kept);
-        (kept, _) = go_on_with(rt, words, room, seed, space)?;
-    }
-    Ok(Kept {
-        tree: kept.tree,
-        left_out,
-        shortened: Some(shortened),
-    })
 }

@@ -5,9 +5,9 @@ ghost use Rattle.smb_opens.specs.Good.{UnmarkedTree};
 
 use crate::fault::KeptFault;
 use crate::files::fault_of_read;
-use crate::first_line::{FIRST_BYTES, is_begun, read_first, refused, seed_in};
+use crate::first_line::{is_begun, read_first, refused, seed_in};
 use smb_engine::NodeTree;
-use smb_journal_file::DiskFile;
+use smb_journal_file::{DiskFile, FIRST_BYTES};
 use smb_journal_start::{Space, files_left, read};
 use smb_tree::EntryNo;
 use std::fs;

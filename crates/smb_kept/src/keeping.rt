@@ -76,8 +76,8 @@ impl KeepWords<'_> {
         give_name(rt, self.path, path, self.settles)
     }
 
-    /// Takes the file away that a start left that was ended, where it is there. Where a program has it to itself it stays,
-    /// which is the fault.
+    /// Takes the file away that a start left that was ended, where it is there. Where a program has it to itself it
+    /// stays, which is the fault.
     pub fn remove_left(&self, rt: &HostRuntime) -> Result<(), KeptFault> {
         remove_left(rt, self.path)
     }

@@ -37,7 +37,6 @@ mod progress;
 mod putting;
 mod room;
 mod share;
-mod shortened;
 mod steps;
 
 pub use compacted::{Compacted, compact};
@@ -53,5 +52,4 @@ pub use performed::{Deaf, Hears, perform};
 pub use performing::{perform_file, read_recording};
 pub use putting::{OwnLine, OwnRecord, put_folder_in};
 pub use share::{RecordedShare, nobody, recorded_login, recorded_share, share_of};
-pub use shortened::Shortened;
 pub use steps::Steps;

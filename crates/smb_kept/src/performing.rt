@@ -7,7 +7,8 @@ use smb_engine::{Authenticator, Opens, Share, Tree};
 use smb_journal::{GivenAnswer, Header, given_answers};
 use std::collections::VecDeque;
 
-/// The first line of a recording, and the answers of the authenticator in it. All of it is read, and nothing is performed.
+/// The first line of a recording, and the answers of the authenticator in it. All of it is read, and nothing is
+/// performed.
 pub fn read_recording(
     rt: &HostRuntime,
     path: &str,

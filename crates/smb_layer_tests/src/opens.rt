@@ -1,4 +1,5 @@
-//! A store over the tree of nodes and the table of opens, and over the plain pair, call by call, with answers set by hand.
+//! A store over the tree of nodes and the table of opens, and over the plain pair, call by call, with answers set by
+//! hand.
 
 ghost use Rattle.std.specs.Prelude.{◌≡◌};
 
@@ -195,8 +196,9 @@ fn exists<T: Tree>(tree: &T, name: &[u8]) -> bool {
     }
 }
 
-/// Open 1, of tree 2, is to delete a folder, and open 2, of tree 1, the file in it. Whether the folder stays and the file goes as
-/// the session leaves: its opens are closed in rising number, so the file is in the folder as that is closed.
+/// Open 1, of tree 2, is to delete a folder, and open 2, of tree 1, the file in it. Whether the folder stays and the
+/// file goes as the session leaves: its opens are closed in rising number, so the file is in the folder as that is
+/// closed.
 fn leaves_in_rising_number<T: Tree + Drop, O: Opens + Drop>(store: &mut Store<T, O>) -> bool {
     if !opens_to_delete(store, b"d\0", 0x1, 2) || !opens_to_delete(store, b"d\0\\\0f\0", 0x40, 1) {
         return false;

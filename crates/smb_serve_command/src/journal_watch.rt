@@ -5,6 +5,7 @@ use crate::sight::Sight;
 use crate::status_door::StatusDoor;
 use smb_command_parts::{Fault, Severity, say};
 use smb_engine::{Authenticator, Opens, Share, Tree};
+use smb_journal_file::{Renewals, Renewed};
 use smb_journal_start::KeptTree;
 use smb_reason::{Reason, Shown};
 use smb_serving::Watcher;
@@ -23,16 +24,24 @@ const HAS_ROOM: &str = "there is room again";
 pub trait OnDisk {
     /// Why the disk has no room; None where it has.
     fn lacks_room(&self) -> Option<Reason>;
+
+    /// What came of its journal where it was to be written anew.
+    fn renewals(&self) -> Renewals;
 }
 
-impl OnDisk for KeptTree {
+impl OnDisk for KeptTree<'_> {
     fn lacks_room(&self) -> Option<Reason> {
         self.file().lacks_room()
+    }
+
+    fn renewals(&self) -> Renewals {
+        self.file().renewals()
     }
 }
 
 /// Looks, behind each turn, whether a share's journal has room, and says on standard error and in the log where it has
-/// none, once a minute at most, and where it has some again. Then it looks for who asks for the share's status.
+/// none, once a minute at most, and where it has some again; and where it was written anew, or could not be. Then it
+/// looks for who asks for the share's status.
 #[derive(Drop)]
 pub struct JournalWatch<'l, 'a> {
     rt: &'a HostRuntime,
@@ -44,6 +53,8 @@ pub struct JournalWatch<'l, 'a> {
     is_said: bool,
     /// When it was said last that there is none.
     said: Option<Instant>,
+    /// How often it was said that the journal was written anew, or could not be.
+    renewals: u64,
 }
 
 impl<'l, 'a> JournalWatch<'l, 'a> {
@@ -65,6 +76,7 @@ impl<'l, 'a> JournalWatch<'l, 'a> {
             door: sight.door(rt, words)?,
             is_said: false,
             said: None,
+            renewals: 0,
         })
     }
 
@@ -79,7 +91,13 @@ impl<'l, 'a> JournalWatch<'l, 'a> {
         }
     }
 
-    /// Says why there is no room, or else that there is some, on standard error and in the log.
+    /// Says an event on standard error and in the log.
+    fn say_event(&self, severity: Severity, event: &str) {
+        say(self.rt, severity, event);
+        self.sight.note(self.rt, self.clock, event);
+    }
+
+    /// Says why there is no room, or else that there is some.
     fn say(&self, lacks: Option<Reason>) -> Result<(), AllocError> {
         let (alloc, path) = (self.rt.alloc(), Shown(self.path.as_bytes()));
         let (severity, event) = match lacks {
@@ -92,9 +110,38 @@ impl<'l, 'a> JournalWatch<'l, 'a> {
                 (Severity::Informational, event)
             }
         };
-        say(self.rt, severity, event.as_str());
-        self.sight.note(self.rt, self.clock, event.as_str());
+        self.say_event(severity, event.as_str());
         Ok(())
+    }
+
+    /// Says what came of the journal where it was to be written anew.
+    fn say_renewed(&self, renewed: Renewed) -> Result<(), AllocError> {
+        let (alloc, path) = (self.rt.alloc(), Shown(self.path.as_bytes()));
+        let (severity, event) = match renewed {
+            Renewed::Done { now, before } => {
+                let event = format!(in alloc;
+                    "journal: {path}: written anew, with {now} bytes for {before}"
+                )?;
+                (Severity::Informational, event)
+            }
+            Renewed::Not(reason) => {
+                let event = format!(in alloc; "journal: {path}: not written anew: {reason}")?;
+                (Severity::Warning, event)
+            }
+        };
+        self.say_event(severity, event.as_str());
+        Ok(())
+    }
+
+    /// Says what came of the journal where it was to be written anew, once each time.
+    fn note_renewals(&mut self, renewals: Renewals) {
+        if renewals.count() == self.renewals {
+            return;
+        }
+        self.renewals = renewals.count();
+        if let Some(renewed) = renewals.last() {
+            let _ = self.say_renewed(renewed);
+        }
     }
 
     /// Says why there is no room, or that there is some, where that is to be said.
@@ -112,7 +159,9 @@ impl<'l, 'a> JournalWatch<'l, 'a> {
 impl<A: Authenticator + Drop, T: Tree + OnDisk + Drop, O: Opens + Drop> Watcher<A, T, O>
     for JournalWatch<'_, '_> {
     fn look(&mut self, share: &Share<A, T, O>) {
-        self.note_room(share.server().store().tree().lacks_room());
+        let tree = share.server().store().tree();
+        self.note_room(tree.lacks_room());
+        self.note_renewals(tree.renewals());
         self.door.look(share);
     }
 }

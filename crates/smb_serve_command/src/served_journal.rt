@@ -12,19 +12,20 @@ use crate::sight::Sight;
 use smb_command_parts::{Fault, Severity, random_number, say, say_cut_batch};
 use smb_engine::{Authenticator, HandleTable, ServeFault, Share};
 use smb_journal::{LimitedConfig, Mailbox};
+use smb_journal_file::NextWords;
 use smb_journal_start::{KeptTree, Space};
-use smb_kept::{JournalWords, Kept, KeptFault, KeptPeers, Shortened, keep_changes, path_of};
+use smb_kept::{JournalWords, Kept, KeptFault, KeptPeers, keep_changes, path_of};
 use smb_peers::{Peers, Stopping};
 use smb_reason::{Reason, Shown};
 
 /// A share whose files are kept.
-type KeptShare<A> = Share<A, KeptTree, HandleTable>;
+type KeptShare<'a, A> = Share<A, KeptTree<'a>, HandleTable>;
 
 /// Serves a share whose files are kept to peers, and ends all connections. Gives the peers, and why not all is kept;
 /// None where it is.
 fn serve_kept_to<'a, A: Authenticator + Drop, P: Peers + Stopping + Drop>(
     serving: Serving<'a, '_>,
-    share: &mut KeptShare<A>,
+    share: &mut KeptShare<'_, A>,
     peers: P,
     clock: &mut ServeClock<'_>,
     sight: &Sight<'a>,
@@ -42,7 +43,7 @@ fn serve_kept_to<'a, A: Authenticator + Drop, P: Peers + Stopping + Drop>(
 /// say.
 fn serve_kept<A: Authenticator + Drop>(
     serving: Serving<'_, '_>,
-    share: &mut KeptShare<A>,
+    share: &mut KeptShare<'_, A>,
     clock: &mut ServeClock<'_>,
     next: u64,
 ) -> Result<(), Fault> {
@@ -63,27 +64,24 @@ fn serve_kept<A: Authenticator + Drop>(
     }
 }
 
-/// A share over the files of a journal, which is made where it is not there, with the room of the file `room`.
-fn kept_share<A: Authenticator + Drop>(
-    rt: &HostRuntime,
+/// A share over the files of a journal, which is made where it is not there, with the room of the file `room`. Once
+/// `next` has its path it is written anew there where it gets long.
+fn kept_share<'a, A: Authenticator + Drop>(
+    next: NextWords<'a>,
     journal: JournalWords<'_>,
     room: &str,
     limited: LimitedConfig,
     authenticator: A,
-) -> Result<KeptShare<A>, Fault> {
+) -> Result<KeptShare<'a, A>, Fault> {
+    let rt = next.rt;
     let LimitedConfig { limits, config } = limited;
     let space = Space {
         limits,
         capacity: config.capacity,
         created: config.created,
     };
-    let Kept {
-        tree,
-        left_out,
-        shortened,
-    } = keep_changes(rt, journal, room, random_number()?, space)?;
+    let Kept { tree, left_out } = keep_changes(next, journal, room, random_number()?, space)?;
     say_cut_batch(rt, journal.path, left_out);
-    say_shortened(rt, journal.path, shortened);
     let opens = HandleTable::new(rt.alloc());
     match Share::over(rt.alloc(), limits, config, authenticator, tree, opens) {
         Ok(share) => Ok(share),
@@ -100,28 +98,16 @@ pub fn serve_journal<A: Authenticator + Drop>(
     authenticator: A,
 ) -> Result<(), Fault> {
     let room = room_of(serving.rt.alloc(), journal)?;
-    match kept_share(serving.rt, journal, room.as_str(), limited, authenticator) {
+    let next = NextWords {
+        rt: serving.rt,
+        path: journal.path,
+    };
+    match kept_share(next, journal, room.as_str(), limited, authenticator) {
         Ok(mut share) => {
             let mut clock = ServeClock::new(serving.rt, serving.words.clock);
             serve_kept(serving, &mut share, &mut clock, 1)
         }
         Err(fault) => Err(fault),
-    }
-}
-
-/// Says on standard error that a journal that was too long was written anew, or why not.
-fn say_shortened(rt: &HostRuntime, name: &str, shortened: Option<Shortened>) {
-    let name = Shown(name.as_bytes());
-    match shortened {
-        None => {}
-        Some(Shortened::Done { now, before }) => {
-            let line = format_args!("journal: {name}: written anew, with {now} bytes for {before}");
-            say(rt, Severity::Informational, line);
-        }
-        Some(Shortened::Not(reason)) => {
-            let line = format_args!("journal: {name}: not written anew: {reason}");
-            say(rt, Severity::Warning, line);
-        }
     }
 }
 
@@ -141,7 +127,7 @@ fn serve_filled<A: Authenticator + Drop>(
     path: &str,
     made: JournalWords<'_>,
     journal: JournalWords<'_>,
-    share: &mut KeptShare<A>,
+    share: &mut KeptShare<'_, A>,
 ) -> Result<(), Fault> {
     let mut clock = ServeClock::new(serving.rt, serving.words.clock);
     if let Err(fault) = put_in(serving, folder, path, share, &mut clock, None) {
@@ -181,7 +167,11 @@ pub fn serve_journal_folder<A: Authenticator + Drop>(
         path: room_path.as_str(),
         ..journal
     };
-    let served = match kept_share(rt, made, room.path, limited, login) {
+    let next = NextWords {
+        rt,
+        path: journal.path,
+    };
+    let served = match kept_share(next, made, room.path, limited, login) {
         Ok(mut share) => serve_filled(serving, folder, path.as_str(), made, journal, &mut share),
         Err(fault) => Err(fault),
     };

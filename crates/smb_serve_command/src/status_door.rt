@@ -304,8 +304,8 @@ impl OpenDoor<'_> {
         }
     }
 
-    /// Whether the last look is long enough ago, at the moment at which the turn began: the watch has it, and the system is
-    /// not asked for the time behind each turn.
+    /// Whether the last look is long enough ago, at the moment at which the turn began: the watch has it, and the
+    /// system is not asked for the time behind each turn.
     fn is_time_to_look(&self) -> bool {
         let Ok(watch) = self.watch.try_borrow() else {
             return false;
