@@ -1,4 +1,5 @@
 """Clients whose server is killed again and again, and what has to be there behind a restart."""
+import contextlib
 import os
 import random
 import struct
@@ -20,6 +21,9 @@ CLIENTS, MOST_FILES, LONGEST, LONGEST_WRITE = 3, 4, 12_000, 1_500
 # Within how many seconds a server is killed; which round has what was written settled, in which one the server is killed
 # too while it begins, and in which one the disk is full: how many bytes it has, and how many are left then.
 SOONEST, LATEST, SETTLED, KILLED_TWICE, FULL, DISK, LEFT = 0.05, 0.6, 4, 5, 5, 256 * MIB, 100_000
+# Which round has the journal written anew: how many bytes a file has by which it gets long, how many of them are written at
+# a time, and within how many seconds the server is killed once the new one is begun.
+ANEW, LARGE, PIECE, WITHIN = 2, 15 * MIB, 1 << 16, 0.02
 # Over how many kills a journal is kept.
 OF_ONE, OF_ONE_UNPROVED = 25, 10
 
@@ -215,6 +219,18 @@ class Marking(Keeping):
         super().closes_it(files, going)
 
 
+class Large(Looking):
+    """A client that writes a large file over and over, so that the journal gets long."""
+
+    def writes_until(self, is_long):
+        """Writes until it is long, or its server is gone."""
+        with contextlib.suppress(Ended, ConnectionError):
+            file, at = self.comes_in().opens(f'{CLIENTS} large', ALL_ACCESS, OVERWRITE_IF), 0
+            while not is_long():
+                self.asks(write(self.next_id(), file, at % LARGE, bytes([at // LARGE % 256]) * PIECE, self.session, 1), 0, None)
+                at += PIECE
+
+
 class Journal:
     """A journal that servers are killed on, and what may be there of each client's files."""
 
@@ -222,14 +238,14 @@ class Journal:
         self.program, self.folder, self.seed, self.chance = program, folder, seed, random.Random(seed)
         self.may_be_full = may_be_full
         self.file, self.answered = os.path.join(folder, 'journal'), 0
-        self.may_be_left, self.under_way, self.happened = [[{}]] * CLIENTS, 0, 0
+        self.may_be_left, self.under_way, self.happened, self.anew = [[{}]] * CLIENTS, 0, 0, 0
 
     def compare(self, share):
         """All that a client sees: it is what may be there."""
         seen = tree_in(share)
         of_all = [{name: data for name, data in bytes_in(seen).items() if name.startswith(f'{number} ')}
                   for number in range(CLIENTS)]
-        if sum(map(len, of_all)) != len(seen):
+        if sum(map(len, of_all)) + (f'{CLIENTS} large' in seen) != len(seen):
             raise Wrong(f'there are names of nobody: {list(seen)}')
         for found, outcomes in zip(of_all, self.may_be_left):
             if found not in outcomes:
@@ -260,8 +276,13 @@ class Journal:
             threads = [threading.Thread(target=client.works_on, args=(wrong,)) for client in clients]
             for thread in threads:
                 thread.start()
-            time.sleep(self.chance.uniform(SOONEST, LATEST))
+            if number % ANEW == ANEW - 1:
+                Large(share, CLIENTS).writes_until(lambda: os.path.exists(f'{self.file}.new'))
+                time.sleep(self.chance.uniform(0, WITHIN))
+            else:
+                time.sleep(self.chance.uniform(SOONEST, LATEST))
             killed(share)
+            self.anew += os.path.exists(f'{self.file}.new')
             for thread in threads:
                 thread.join()
         if ballast:
@@ -295,7 +316,8 @@ def is_kept_over(program, rounds, seed):
         if not journal.is_extracted():
             raise Wrong(f'seed {seed}: what is extracted is not what a client sees')
         print(f'  seed {seed}: {rounds} kills, {journal.answered:,} answers, {os.path.getsize(journal.file):,} bytes; '
-              f'of {journal.under_way} changes under way {journal.happened} had happened', flush=True)
+              f'of {journal.under_way} changes under way {journal.happened} had happened; {journal.anew} new journals were '
+              'under way', flush=True)
         return True
 
 

@@ -1,0 +1,178 @@
+"""A journal that gets much longer than its files need is written anew while it is served."""
+import os
+import struct
+import tempfile
+import threading
+import time
+
+from tests.keeping.journal import INTERNAL_INFORMATION, NUMBER_AT, seen
+from tests.smb.client import ALL_ACCESS, LONGEST_PIECE
+from tests.smb.disk import MIB, fill, small_disk
+from tests.smb.frames import query_info, write
+from tests.smb.kept import Looking, bytes_in, differs, keeping, killed, tree_in
+from tests.smb.working import CREATE, DIRECTORY_FILE, OPEN
+
+# How many bytes a file has that is written again and again, how often that is done at a time, and how many bytes a journal
+# has at most beside twice those that its files need.
+SIZE, TIMES, SPARE = 16 * LONGEST_PIECE, 50, 64 * MIB
+# How many files of that size there are where the new file takes a while; how many clients write to them, for how many
+# seconds; and the seed.
+FILES, CLIENTS, SECONDS, SEED = 24, 4, 8, 20_261_130
+# After how many times a journal of these files is written anew, and how many bytes are left on a disk that has room for
+# that, and not for the new file.
+UNTIL_LONG, LEFT = 68, 74 * MIB
+# How many requests are made at most until a journal is written anew.
+LONGEST = 20_000
+
+
+def writes_anew(client, number, turn):
+    """Writes a whole file anew, and gives the bytes that it has then."""
+    data = struct.pack('<Q', turn) * (LONGEST_PIECE // 8)
+    for at in range(0, SIZE, LONGEST_PIECE):
+        client.asks(write(client.next_id(), number, at, data, client.session, 1), 0, None)
+    return data * (SIZE // LONGEST_PIECE)
+
+
+def number_in(client, name):
+    """The number by which a client knows a file."""
+    opened = client.opens(name, ALL_ACCESS, OPEN)
+    reply, _ = client.any_status(query_info(client.next_id(), opened, INTERNAL_INFORMATION, client.session, 1))
+    client.ends(opened)
+    return reply[NUMBER_AT:NUMBER_AT + 8]
+
+
+def one_that_is_long_is_written_anew(program):
+    """It has its files, with their numbers, and its rights; a link to it stays one; it is said each time; and a program
+    that begins with it has all of them."""
+    with tempfile.TemporaryDirectory() as folder:
+        file, link, wrong = os.path.join(folder, 'kept'), os.path.join(folder, 'link'), []
+        os.symlink(file, link)
+        with keeping(program, '--journal', file) as share:
+            killed(share)
+        os.chmod(file, 0o640)
+        with keeping(program, '--journal', link) as share:
+            client = Looking(share).comes_in()
+            for name in ('gone', 'folder'):
+                client.ends(client.opens(name, ALL_ACCESS, CREATE, DIRECTORY_FILE))
+            number, sizes = client.opens('folder\\long', ALL_ACCESS, CREATE), []
+            for turn in range(3 * TIMES):
+                data = writes_anew(client, number, turn)
+                sizes.append(os.path.getsize(file))
+            client.ends(number)
+            found = number_in(client, 'folder\\long')
+            killed(share)
+            said = share.process.stderr.read().decode().splitlines()
+        anew = [line for line in said if line.startswith(f'journal: {link}: written anew, with ')]
+        wrong += [differs(len(anew) > 1 and anew == said, True, said), differs(max(sizes) < SPARE, True, max(sizes))]
+        rights = os.stat(file).st_mode & 0o777, os.path.islink(link), sorted(os.listdir(folder))
+        wrong.append(differs(rights, (0o640, True, ['kept', 'kept.room', 'link', 'link.room']), 'rights and names'))
+        with keeping(program, '--journal', file) as share:
+            wrong.append(differs(share.before, [], 'said again'))
+            tree = {'gone': None, 'folder': None, 'folder\\long': data}
+            wrong.append(differs(bytes_in(tree_in(share)) == tree, True, 'files'))
+            wrong.append(differs(number_in(Looking(share).comes_in(), 'folder\\long') == found, True, 'number'))
+            killed(share)
+        return not any(wrong)
+
+
+class Writer(Looking):
+    """A client that writes files of its own anew, over and over, and knows what each has."""
+
+    def begins(self, count):
+        self.comes_in()
+        self.files = [self.opens(f'{self.number} {i}', ALL_ACCESS, CREATE) for i in range(count)]
+        self.has, self.turns, self.is_to_end = {}, 0, False
+        for i in range(count):
+            self.writes(i)
+        return self
+
+    def writes(self, i):
+        self.turns += 1
+        self.has[f'{self.number} {i}'] = writes_anew(self, self.files[i], self.turns * CLIENTS + self.number)
+
+    def writes_until_the_end(self):
+        while not self.is_to_end:
+            self.writes(self.chance.randrange(len(self.files)))
+
+
+def at_work(share, seconds, look):
+    """The waits of a client that opens a file and closes it beside others that write for so many seconds, and what their
+    files are then; each time it is looked."""
+    writers = [Writer(share, i, SEED).begins(FILES // CLIENTS) for i in range(CLIENTS)]
+    threads = [threading.Thread(target=writer.writes_until_the_end) for writer in writers]
+    for thread in threads:
+        thread.start()
+    looking, end, waits = Looking(share, CLIENTS).comes_in(), time.monotonic() + seconds, []
+    while time.monotonic() < end:
+        begin = time.monotonic()
+        looking.ends(looking.opens('0 0'))
+        waits.append(time.monotonic() - begin)
+        look()
+    for writer in writers:
+        writer.is_to_end = True
+    for thread in threads:
+        thread.join()
+    return waits, {name: data for writer in writers for name, data in writer.has.items()}
+
+
+def it_is_short_beside_clients_that_write(program):
+    """Four clients write to all of their files as fast as they can: the journal is never longer than twice what these
+    need, and some; and it has what they wrote."""
+    with tempfile.TemporaryDirectory() as folder:
+        file, sizes = os.path.join(folder, 'kept'), []
+        with keeping(program, '--journal', file) as share:
+            waits, found = at_work(share, SECONDS, lambda: sizes.append(os.path.getsize(file)))
+            killed(share)
+            anew = share.process.stderr.read().decode().count(': written anew, with ')
+        wrong = [differs(max(sizes) < 2 * FILES * SIZE + SPARE, True, max(sizes)), differs(anew > 1, True, anew)]
+        wrong.append(differs(seen(program, file) == found, True, 'files'))
+        print(f'  written anew {anew} times, {max(sizes):,} bytes at most; a CREATE with its CLOSE waited {max(waits):.3f} seconds at '
+              'most', flush=True)
+        return not any(wrong)
+
+
+def one_for_which_there_is_no_room_goes_on(program):
+    """It gets longer, nobody is refused, and it is said why it is not written anew."""
+    with small_disk(2 * FILES * SIZE + SPARE) as disk:
+        if disk is None:
+            return True
+        file = os.path.join(disk, 'kept')
+        with keeping(program, '--journal', file) as share:
+            writer = Writer(share, 0, SEED).begins(FILES)
+            fill(disk, LEFT)
+            for i in range(UNTIL_LONG):
+                writer.writes(i % FILES)
+            tree = bytes_in(tree_in(share))
+            killed(share)
+            said = share.process.stderr.read().decode()
+        wrong = [differs(said, f'journal: {file}: not written anew: no room on the disk\n', 'said')]
+        wrong += [differs(tree == writer.has, True, 'files'), differs(os.path.exists(f'{file}.new'), False, 'new')]
+        return not any(wrong) and not differs(seen(program, file) == tree, True, 'kept')
+
+
+def one_that_a_killed_program_left_is_begun_again(program):
+    """Of a new file that is not all there nothing is taken: the journal is whole, and is written anew from its begin."""
+    with tempfile.TemporaryDirectory() as folder:
+        file = os.path.join(folder, 'kept')
+        with keeping(program, '--journal', file) as share:
+            writer = Writer(share, 0, SEED).begins(FILES)
+            while not os.path.exists(f'{file}.new'):
+                writer.writes(writer.turns % FILES)
+            killed(share)
+        is_left = os.path.exists(f'{file}.new')
+        with keeping(program, '--journal', file) as share:
+            client = Looking(share).comes_in()
+            for _ in range(LONGEST):
+                if not os.path.exists(f'{file}.new'):
+                    break
+                client.ends(client.opens('0 0'))
+            wrong = [differs(os.path.exists(f'{file}.new'), False, 'new')]
+            wrong.append(differs(bytes_in(tree_in(share)) == writer.has, True, 'files'))
+            killed(share)
+        wrong.append(differs(os.path.getsize(file) < SPARE, True, 'size'))
+        print(f'  a new file was {"" if is_left else "not "}left', flush=True)
+        return not any(wrong) and not differs(seen(program, file) == writer.has, True, 'kept')
+
+
+TESTS = (one_that_is_long_is_written_anew, it_is_short_beside_clients_that_write,
+         one_for_which_there_is_no_room_goes_on, one_that_a_killed_program_left_is_begun_again)
