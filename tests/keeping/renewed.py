@@ -122,7 +122,7 @@ def it_is_short_beside_clients_that_write(program):
             waits, found = at_work(share, SECONDS, lambda: sizes.append(os.path.getsize(file)))
             killed(share)
             anew = share.process.stderr.read().decode().count(': written anew, with ')
-        wrong = [differs(max(sizes) < 2 * FILES * SIZE + SPARE, True, max(sizes)), differs(anew > 0, True, anew)]
+        wrong = [differs(max(sizes) < 2 * FILES * SIZE + SPARE, True, max(sizes)), differs(anew > 1, True, anew)]
         wrong.append(differs(seen(program, file) == found, True, 'files'))
         print(f'  written anew {anew} times, {max(sizes):,} bytes at most; a CREATE with its CLOSE waited {max(waits):.3f} seconds at '
               'most', flush=True)
