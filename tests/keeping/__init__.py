@@ -1,11 +1,12 @@
 """What a share keeps in a file: nothing acknowledged is lost where the program is killed, a record says what was
 answered, and what is done with a file that is cut, changed, of another kind or full; and folders."""
-from tests.keeping import compacted, damaged, folders, full, journal, killing, named, recordings, refused, renewed
+from tests.keeping import (broken, compacted, damaged, folders, full, journal, killing, named, recordings, refused,
+                           renewed)
 
 SEED, KILLS = 20_261_126, 20
 PARTS = {'journal': journal.TESTS, 'recordings': recordings.TESTS, 'damaged': damaged.TESTS, 'named': named.TESTS,
          'many': named.TESTS_OF_MANY, 'folders': folders.TESTS, 'compacted': compacted.TESTS, 'refused': refused.TESTS,
-         'full': full.TESTS, 'renewed': renewed.TESTS}
+         'full': full.TESTS, 'renewed': renewed.TESTS, 'broken': broken.TESTS}
 
 
 def add_words(reader):

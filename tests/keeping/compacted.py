@@ -6,7 +6,7 @@ import tempfile
 
 from tests.keeping.damaged import OTHER_VERSION
 from tests.keeping.folders import DAMAGED_AT_ONCE, NEITHER
-from tests.keeping.journal import FIRST, FIRST_BYTES, batches_of
+from tests.keeping.journal import FIRST, FIRST_BYTES, batches_of, turned
 from tests.keeping.recordings import made_old
 from tests.smb.chance import some_bytes
 from tests.smb.client import ALL_ACCESS, LONGEST_PIECE
@@ -184,9 +184,8 @@ def what_is_neither_is_not_compacted(program):
     with tempfile.TemporaryDirectory() as folder:
         file, _ = worked(program, '--journal', os.path.join(folder, 'kept'), MOMENT)
         data, new = bytes_of(file), os.path.join(folder, 'new')
-        damaged = data[:60] + bytes([data[60] ^ 1]) + data[61:]
-        said = {b'no journal\n': NEITHER, b'': NEITHER, data.replace(b' 2 ', b' 3 ', 1): OTHER_VERSION,
-                damaged: DAMAGED_AT_ONCE}
+        said = {b'no journal\n': NEITHER, b'': NEITHER, data.replace(b' 3 ', b' 4 ', 1): OTHER_VERSION,
+                turned(data): DAMAGED_AT_ONCE}
         other = os.path.join(folder, 'other')
         wrong = [differs(compacted(program, put(other, it), new), (1, f'journal: {why}\n'), why)
                  for it, why in said.items()]

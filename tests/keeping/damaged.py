@@ -64,7 +64,7 @@ def what_is_no_journal_is_refused(program):
         record, events = recordings.make_both(program, folder)
         first = bytes_of(make(program, os.path.join(folder, 'kept')))[:FIRST_BYTES]
         said = {b'a text\n' * 9: NO_JOURNAL, b'a text': NO_JOURNAL, b'\n': NO_JOURNAL, bytes(1_000): NO_JOURNAL,
-                first[:-1] + b'0\n': OTHER_VERSION, first.replace(b' 2 ', b' 3 '): OTHER_VERSION,
+                first[:-1] + b'0\n': OTHER_VERSION, first.replace(b' 3 ', b' 4 '): OTHER_VERSION,
                 bytes_of(record): NO_JOURNAL, bytes_of(events): OF_EVENTS}
         found = [is_refused(program, put(os.path.join(folder, 'file'), data), why) for data, why in said.items()]
         absent = os.path.join(folder, 'absent', 'file')

@@ -5,7 +5,7 @@ import subprocess
 import tempfile
 
 from tests.keeping.damaged import EXISTS, IN_USE, OTHER_VERSION
-from tests.keeping.journal import FIRST, seen
+from tests.keeping.journal import FIRST, seen, turned
 from tests.smb.client import ALL_ACCESS
 from tests.smb.frames import write
 from tests.smb.kept import (Looking, begun, bytes_in, bytes_of, differs, extracted, keeping, killed, names_in, put,
@@ -314,7 +314,7 @@ def an_extraction_is_refused(program):
         with keeping(program, '--from', os.path.join(TOP, 'examples'), '--journal', journal) as share:
             killed(share)
         data, to = bytes_of(journal), os.path.join(folder, 'to')
-        others = (bytes_of(text), b'', data.replace(b' 2 ', b' 3 ', 1), data[:60] + bytes([data[60] ^ 1]) + data[61:])
+        others = bytes_of(text), b'', data.replace(b' 3 ', b' 4 ', 1), turned(data)
         found = [extracted(program, journal, folder), extracted(program, journal, text),
                  program.ran('extract', to, given=data)[::2],
                  *(extracted(program, put(os.path.join(folder, 'other'), other), to) for other in others)]

@@ -12,8 +12,9 @@ from tests.smb.kept import (Looking, begun, bytes_in, bytes_of, checked, cut_end
 from tests.smb.program import GUEST, TOP
 from tests.smb.working import CREATE, DIRECTORY_FILE, OPEN
 
-# The first line: what it begins with, and how many bytes it has with its seed.
-FIRST, FIRST_BYTES = b'# smbshare journal 2 ', 38
+# The first line: what it begins with, how many bytes it has with its two numbers, of as many digits, and where these
+# are.
+FIRST, FIRST_BYTES, DIGITS, SEED_AT, LEAST_AT = b'# smbshare journal 3 ', 55, 16, 21, 38
 # A batch: of its front the first 8 bytes say how many bytes of changes it has; how many there are besides.
 FRONT, BACK = 24, 9
 INTERNAL_INFORMATION, NUMBER_AT = 6, 72
@@ -37,13 +38,19 @@ def make(program, file, *words):
     return file
 
 
-def batches_of(data):
+def batches_of(data, at=FIRST_BYTES):
     """Where each batch ends."""
-    at, ends = FIRST_BYTES, []
+    ends = []
     while at < len(data):
         at += FRONT + int.from_bytes(data[at:at + 8], 'little') + BACK
         ends.append(at)
     return ends
+
+
+def turned(data):
+    """A journal that is damaged at once: a bit is another one in the front of its first batch."""
+    at = FIRST_BYTES + FRONT - 2
+    return data[:at] + bytes([data[at] ^ 1]) + data[at + 1:]
 
 
 def seen(program, file, *words):
@@ -175,8 +182,8 @@ def a_check_is_refused(program):
     with tempfile.TemporaryDirectory() as folder:
         file, wrong, absent = make(program, os.path.join(folder, 'kept')), [], os.path.join(folder, 'absent')
         data, (record, events) = bytes_of(file), make_both(program, folder)
-        damaged = put(os.path.join(folder, 'damaged'), data[:60] + bytes([data[60] ^ 1]) + data[61:])
-        other = put(os.path.join(folder, 'other'), data.replace(b' 2 ', b' 3 ', 1))
+        damaged = put(os.path.join(folder, 'damaged'), turned(data))
+        other = put(os.path.join(folder, 'other'), data.replace(b' 3 ', b' 4 ', 1))
         for name, said in ((damaged, 'damaged'), (record, 'no journal'), (events, 'a journal of events'),
                            (other, 'a journal of another version')):
             found, of_start = checked(program, name), begun(program, '--journal', name)

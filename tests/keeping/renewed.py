@@ -12,15 +12,20 @@ from tests.smb.frames import query_info, write
 from tests.smb.kept import Looking, bytes_in, differs, keeping, killed, tree_in
 from tests.smb.working import CREATE, DIRECTORY_FILE, OPEN
 
-# How many bytes a file has that is written again and again, how often that is done at a time, and how many bytes a journal
-# has at most beside twice those that its files need.
-SIZE, TIMES, SPARE = 16 * LONGEST_PIECE, 50, 64 * MIB
+# How many bytes a file has that is written again and again, and how often that is done at a time. How many bytes a
+# journal has at most beside twice those that its files need, and how many beside half as many again as these and an
+# eighth where no turn has more than 128 KiB.
+SIZE, TIMES, SPARE, BESIDE = 16 * LONGEST_PIECE, 50, 64 * MIB, 50 * MIB
 # How many files of that size there are where the new file takes a while; how many clients write to them, for how many
-# seconds; and the seed.
-FILES, CLIENTS, SECONDS, SEED = 24, 4, 8, 20_261_130
+# seconds, and for how many at most; and the seed.
+FILES, CLIENTS, SECONDS, LONGEST, SEED = 24, 4, 8, 300, 20_261_130
 # After how many times a journal of these files is written anew, and how many bytes are left on a disk that has room for
 # that, and not for the new file.
 UNTIL_LONG, LEFT = 68, 74 * MIB
+# How long a disk is that has room for a journal and its next file, and not for the one before it too; until how many
+# new ones there were files are written there; by how many bytes that one gets shorter at a time, and for how many
+# seconds it surely has not.
+DISK, NEW_ONES, STEP, WHOLE_SECONDS = 128 * MIB, 2, 32 * MIB, 50
 
 
 def writes_anew(client, number, turn):
@@ -93,19 +98,32 @@ class Writer(Looking):
             self.writes(self.chance.randrange(len(self.files)))
 
 
-def at_work(share, seconds, look):
-    """The waits of a client that opens a file and closes it beside others that write for so many seconds, and what their
-    files are then; each time it is looked."""
+class Growth:
+    """How long a journal was at most, and how often another file got its name."""
+
+    def __init__(self, file):
+        found = os.stat(file)
+        self.file, self.most, self.anew, self.number = file, found.st_size, 0, found.st_ino
+
+    def look(self):
+        found = os.stat(self.file)
+        self.most, self.anew = max(self.most, found.st_size), self.anew + (found.st_ino != self.number)
+        self.number = found.st_ino
+
+
+def at_work(share, growth):
+    """The waits of a client that opens a file and closes it beside others that write, for some seconds and until their
+    journal was written anew twice, and what their files are then."""
     writers = [Writer(share, i, SEED).begins(FILES // CLIENTS) for i in range(CLIENTS)]
     threads = [threading.Thread(target=writer.writes_until_the_end) for writer in writers]
     for thread in threads:
         thread.start()
-    looking, end, waits = Looking(share, CLIENTS).comes_in(), time.monotonic() + seconds, []
-    while time.monotonic() < end:
+    looking, begun, waits = Looking(share, CLIENTS).comes_in(), time.monotonic(), []
+    while time.monotonic() < begun + (SECONDS if growth.anew > 1 else LONGEST):
         begin = time.monotonic()
         looking.ends(looking.opens('0 0'))
         waits.append(time.monotonic() - begin)
-        look()
+        growth.look()
     for writer in writers:
         writer.is_to_end = True
     for thread in threads:
@@ -117,15 +135,17 @@ def it_is_short_beside_clients_that_write(program):
     """Four clients write to all of their files as fast as they can: the journal is never longer than twice what these
     need, and some; and it has what they wrote."""
     with tempfile.TemporaryDirectory() as folder:
-        file, sizes = os.path.join(folder, 'kept'), []
+        file = os.path.join(folder, 'kept')
         with keeping(program, '--journal', file) as share:
-            waits, found = at_work(share, SECONDS, lambda: sizes.append(os.path.getsize(file)))
+            growth = Growth(file)
+            waits, found = at_work(share, growth)
             killed(share)
             anew = share.process.stderr.read().decode().count(': written anew, with ')
-        wrong = [differs(max(sizes) < 2 * FILES * SIZE + SPARE, True, max(sizes)), differs(anew > 1, True, anew)]
+        most = FILES * SIZE * 13 // 8 + BESIDE
+        wrong = [differs(growth.most < most, True, (growth.most, most)), differs(anew > 1, True, anew)]
         wrong.append(differs(seen(program, file) == found, True, 'files'))
-        print(f'  written anew {anew} times, {max(sizes):,} bytes at most; a CREATE with its CLOSE waited {max(waits):.3f} seconds at '
-              'most', flush=True)
+        print(f'  written anew {anew} times, {growth.most:,} bytes at most; a CREATE with its CLOSE waited '
+              f'{max(waits):.3f} seconds at most', flush=True)
         return not any(wrong)
 
 
@@ -170,5 +190,58 @@ def one_that_a_killed_program_left_is_begun_again(program):
         return not any(wrong) and not differs(seen(program, file) == writer.has, True, 'kept')
 
 
+def written_until_anew(writer, file):
+    """Writes until the journal has the name of another file; gives the one that had it, which is open, and how long it was
+    at least."""
+    held, growth = os.open(file, os.O_RDONLY), Growth(file)
+    while not growth.anew:
+        length = growth.most
+        writer.writes(writer.turns % FILES)
+        growth.look()
+    return held, length
+
+
+def the_one_before_is_left_whole(program):
+    """For a minute, so that who copies it has all of it; once another one comes it gets shorter, a step each turn. One
+    that has another name stays."""
+    with tempfile.TemporaryDirectory() as folder:
+        file, link = os.path.join(folder, 'kept'), os.path.join(folder, 'link')
+        with keeping(program, '--journal', file) as share:
+            writer = Writer(share, 0, SEED).begins(FILES)
+            first, _ = written_until_anew(writer, file)
+            whole, end = os.fstat(first).st_size, time.monotonic() + WHOLE_SECONDS
+            os.link(file, link)
+            while time.monotonic() < end and not os.path.exists(f'{file}.new'):
+                writer.writes(writer.turns % FILES)
+            wrong = [differs(os.fstat(first).st_size, whole, 'the first one, before another one is written')]
+            second, length = written_until_anew(writer, file)
+            writer.writes(0)
+            wrong.append(differs(os.fstat(first).st_size, whole - STEP, 'the first one, behind the second'))
+            wrong.append(differs(os.path.getsize(link) >= length > whole // 2, True, (os.path.getsize(link), length)))
+            killed(share)
+        for held in (first, second):
+            os.close(held)
+        return not any(wrong) and not differs(seen(program, file) == writer.has, True, 'files')
+
+
+def the_one_before_gives_its_room(program):
+    """Where the disk has no room for it beside the journal and a new one: nobody is refused, and nothing is said."""
+    with small_disk(DISK) as disk:
+        if disk is None:
+            return True
+        file = os.path.join(disk, 'kept')
+        with keeping(program, '--journal', file) as share:
+            writer = Writer(share, 0, SEED).begins(FILES)
+            for _ in range(NEW_ONES):
+                os.close(written_until_anew(writer, file)[0])
+            writer.writes(0)
+            killed(share)
+            said = share.process.stderr.read().decode().splitlines()
+        anew = [line for line in said if line.startswith(f'journal: {file}: written anew, with ')]
+        return not differs(anew == said and len(anew) >= NEW_ONES, True, said) and not differs(
+            seen(program, file) == writer.has, True, 'files')
+
+
 TESTS = (one_that_is_long_is_written_anew, it_is_short_beside_clients_that_write,
-         one_for_which_there_is_no_room_goes_on, one_that_a_killed_program_left_is_begun_again)
+         one_for_which_there_is_no_room_goes_on, one_that_a_killed_program_left_is_begun_again,
+         the_one_before_is_left_whole, the_one_before_gives_its_room)

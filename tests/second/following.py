@@ -9,10 +9,10 @@ What rsync leaves of FILE at the second machine, where FILE.new takes FILE's nam
   there. The old end is never taken for whole batches: each batch is chained by a seed of 64 bits to the one before it,
   the new file's batches are numbered from 1 again, and a batch of another seed is not read
   (crates/smb_changes/specs/Chains.antt). So it is refused, `damaged behind ..`; but where the old copy ends before the
-  batch does that was being copied, that is taken for a lost end (`is_cut` of specs/Batches.antt), as is a new FILE
+  batch does that was being copied, that looks like a lost end (`is_cut` of specs/Batches.antt), as does a new FILE
   whose end is missing. Such a beginning is no state that the share ever had: a new FILE has first what all files are,
-  one by one, so that the last of them are missing; and where it ends with a batch no line says so. So a share must not
-  begin with it: --inplace is for a copy beside another one that is whole.
+  one by one. So its first line says how many bytes it had when it got its name, and a copy that has not all of them is
+  refused, `.. of its first .. bytes are missing`. The copy before it is lost then.
 - By --append it is the old copy as long as FILE is shorter, and then an old beginning with a new end, which is refused.
 """
 import os
@@ -71,6 +71,11 @@ class Shipping:
         self.is_ended = True
         if self.process:
             self.process.kill()
+
+
+def is_refusal(said):
+    """Whether this is what a start says that is refused since a copy was broken off."""
+    return 'damaged behind' in said or 'bytes are missing' in said
 
 
 def started(program, file):
@@ -136,11 +141,8 @@ def follows(program, folder, seconds, seed, words, is_at_once):
           f'{os.path.getsize(copy):,} bytes', flush=True)
     if seen is None:
         print(f'    refused: {said}', flush=True)
-        return bool(words) and is_other and 'damaged behind' in said
+        return bool(words) and is_other and is_refusal(said)
     moment = last_moment(clients, files_of_each(seen), shipping.begun, died)
-    if moment is None and words and is_other:
-        print('    begun with a part of the files: the copy was broken off in a FILE that was written anew', flush=True)
-        return True
     if moment is None:
         print(f'    not what was there since the last whole copy: {list(seen)}', flush=True)
         return False
@@ -182,7 +184,7 @@ def outcome(program, file, files):
     """What comes of a start with a copy that was broken off; the small files had been whole long before."""
     seen, said, _ = started(program, file)
     if seen is None:
-        return 'refused' if 'damaged behind' in said else f'refused otherwise: {said}'
+        return 'refused' if is_refusal(said) else f'refused otherwise: {said}'
     if without_large(bytes_in(seen)) == without_large(files):
         return 'right'
     return 'a part of the files, and a line' if said else 'a part of the files, and no line'
@@ -224,7 +226,7 @@ def appended(program, folder, new, old, files, word):
 
 def broken_off(program, folder, chance):
     """Whether a copy of a FILE that was written anew leaves a whole one where it is broken off, and no old end is read
-    behind the new beginning; what comes of others is told."""
+    behind the new beginning; a part of a copy is refused."""
     new, early, long, files = make_renewed(program, folder)
     ends = batches_of(new)
     print(f'  FILE was written anew: {len(long):,} bytes before, {len(new):,} now, in {len(ends)} batches', flush=True)
@@ -234,17 +236,17 @@ def broken_off(program, folder, chance):
             left, copy = broken_by_rsync(folder, new, old, *words)
             came = outcome(program, copy, files)
             print(f'    {way_of(words)}, broken off over {name} copy, rsync leaves {left}: {came}', flush=True)
-            is_right = is_right and (bool(words) or came == 'right')
+            is_right = is_right and (came == 'right' or bool(words) and came == 'refused')
     places = [chance.randrange(1, len(new)) for _ in range(PLACES)]
     at_ends = chance.sample(ends[:-1], min(PLACES, len(ends) - 1))
     over_long = outcomes(program, folder, new, long, places + at_ends, files)
     print(f'    in place over a long copy, at {len(places + at_ends)} places: {over_long}', flush=True)
-    print(f'    its beginning alone: {outcomes(program, folder, new, b"", places, files)}, and where a batch ends '
-          f'{outcomes(program, folder, new, b"", at_ends, files)}', flush=True)
+    alone = [outcomes(program, folder, new, b'', some, files) for some in (places, at_ends)]
+    print(f'    its beginning alone: {alone[0]}, and where a batch ends {alone[1]}', flush=True)
     for word in ('--append', '--append-verify'):
         print(f'    {word}: over a long copy {appended(program, folder, new, long, files, word)}, over an early copy '
               f'{appended(program, folder, new, early, files, word)}', flush=True)
-    return is_right and set(over_long) == {'refused'}
+    return is_right and set(over_long) == {'refused'} and {*alone[0], *alone[1]} <= {'refused', 'right'}
 
 
 def a_copy_follows(program, seconds, seed):

@@ -5,20 +5,23 @@ ghost use Rattle.std.specs.Io.{StartsWith};
 ghost use Rattle.smb_journaled_tree.specs.Journal.{AddsPart};
 
 use super::done::Done;
+use super::first::FIRST_LINE;
+use super::leaving::Leaving;
 use super::next::NextWords;
 use super::pace::Pace;
 use super::renewals::Renewals;
-use super::room::{RoomFile, write_at_end};
+use super::room::{RoomFile, is_full, write_at_end};
 use smb_journaled_tree::{JournalFault, JournalFile};
 use smb_reason::Reason;
 use smb_recovery::Source;
 use std::fs::File;
 use std::io::{ErrorKind, Read, Write};
 use std::marker::Model;
+use std::mem;
 use std::snapshot::Snapshot;
 
-/// The file of a journal on a disk, behind its first line. It is read once, from its first byte to its last, and written
-/// to behind that; its bytes are those that were read and written.
+/// The file of a journal on a disk, behind its first line. It is read once, from its first byte to its last, and
+/// written to behind that; its bytes are those that were read and written.
 #[derive(Drop)]
 pub struct DiskFile<'a> {
     file: File,
@@ -35,10 +38,15 @@ pub struct DiskFile<'a> {
     done: Done,
     // How many bytes last.
     lasting: u64,
-    // Where its next file is made, where it is to have any, and what came of those that were.
+    // Where its next file is made, where it is to have any, whether one is written, and what came of the others.
     next: Option<NextWords<'a>>,
+    has_next: bool,
     renewals: Renewals,
-    // When it was written to, where it was made to take another one's place, and why it could not be written last.
+    // The files whose place it took.
+    leaving: Leaving,
+    // Where it was made to take another one's place: what writes into its first line, when it was written to, and why
+    // it could not be written last.
+    line: Option<File>,
     pace: Option<Pace<'a>>,
     refused: Option<Reason>,
     // Why the name that it got may not last.
@@ -93,7 +101,10 @@ impl<'a> DiskFile<'a> {
             done: Done::Nothing,
             lasting: 0,
             next: None,
+            has_next: false,
             renewals: Renewals::none(),
+            leaving: Leaving::none(),
+            line: None,
             pace: None,
             refused: None,
             unnamed: None,
@@ -116,11 +127,13 @@ impl<'a> DiskFile<'a> {
         self
     }
 
-    /// An empty file that is open where its first line ends, and is to take the place of another one.
-    pub(crate) fn beside(rt: &'a HostRuntime, file: File, first: u64) -> Self
+    /// An empty file that is open where its first line ends, and is to take the place of another one. `line` writes
+    /// into its first line.
+    pub(crate) fn beside(rt: &'a HostRuntime, file: File, line: File) -> Self
         ensures { result.bytes ≡ [] }
     {
-        let mut made = DiskFile::new(file, first, false, true);
+        let mut made = DiskFile::new(file, FIRST_LINE.len() as u64, false, true);
+        made.line = Some(line);
         made.pace = Some(Pace::new(rt));
         made
     }
@@ -138,6 +151,24 @@ impl<'a> DiskFile<'a> {
         }
     }
 
+    // How many bytes were written to it as slices, where it was made to take another one's place.
+    fn slices(&self) -> u64 {
+        match &self.pace {
+            Some(pace) => pace.slices(),
+            None => 0,
+        }
+    }
+
+    // Makes a file shorter whose place it took, where there is one that is to be.
+    fn shorten_left(&mut self)
+        ensures { self.new ≡ self.old }
+    {
+        let lacks_room = self.lacks_room().is_some();
+        if let Some(words) = self.next {
+            self.leaving.shorten(words.rt, lacks_room);
+        }
+    }
+
     // Writes bytes at the end.
     fn write(&mut self, bytes: &Vec<u8>) -> Result<(), Reason>
         ensures bytes { self.new.bytes ≡ self.old.bytes }
@@ -147,7 +178,13 @@ impl<'a> DiskFile<'a> {
             return Err(reason);
         }
         let end = self.first.saturating_add(self.size);
-        write_at_end(&mut self.file, end, &mut self.room, bytes)?;
+        write_at_end(
+            &mut self.file,
+            end,
+            &mut self.room,
+            &mut self.leaving,
+            bytes,
+        )?;
         if !self.syncs {
             return Ok(());
         }
@@ -200,10 +237,14 @@ impl JournalFile for DiskFile<'_> {
     }
 
     fn take_room(&mut self, count: u64) -> bool {
-        match &mut self.room {
-            Some(room) => room.take(count),
-            None => false,
+        let Some(room) = &mut self.room else {
+            return false;
+        };
+        let is_taken = room.take(count);
+        if room.lacks().is_none() || !self.leaving.let_go() {
+            return is_taken;
         }
+        room.take(count)
     }
 
     fn append(&mut self, bytes: &Vec<u8>) -> Result<(), JournalFault> {
@@ -213,6 +254,9 @@ impl JournalFile for DiskFile<'_> {
         let Some(size) = self.size.checked_add(bytes.len() as u64) else {
             return Err(JournalFault::NotWritten(Reason(ErrorKind::FileTooLarge)));
         };
+        if self.has_next {
+            self.shorten_left();
+        }
         if let Err(reason) = self.write(bytes) {
             self.refused = Some(reason);
             return Err(JournalFault::NotWritten(reason));
@@ -264,11 +308,15 @@ impl JournalFile for DiskFile<'_> {
 
     fn make_next(&mut self, needed: u64, seed: u64) -> Option<Self> {
         let words = self.next?;
+        self.shorten_left();
         if !self.renewals.is_due(self.size, needed) {
             return None;
         }
         match words.make(&self.file, seed) {
-            Ok(made) => made,
+            Ok(made) => {
+                self.has_next = made.is_some();
+                made
+            }
             Err(reason) => {
                 self.renewals.fail(self.size, reason);
                 None
@@ -280,13 +328,15 @@ impl JournalFile for DiskFile<'_> {
         let Some(words) = self.next else {
             return Err(JournalFault::NotWritten(Reason(ErrorKind::Other)));
         };
-        if let Err(reason) = words.give_name(&self.file) {
+        self.has_next = false;
+        if let Err(reason) = words.give_name(&self.file, &next.line, next.size) {
             self.renewals.fail(self.size, reason);
             let _ = words.remove();
             return Err(JournalFault::NotWritten(reason));
         }
-        self.renewals.end(self.size, next.size);
-        self.file = next.file;
+        self.renewals.end(self.size, next.size, next.slices());
+        let old = mem::replace(&mut self.file, next.file);
+        self.leaving.put(words.rt, old);
         self.first = next.first;
         self.size = next.size;
         self.done = next.done;
@@ -303,9 +353,16 @@ impl JournalFile for DiskFile<'_> {
     }
 
     fn drop_next(&mut self, next: Self) {
-        let reason = next.refused.or(self.lacks_room());
+        let reason = next
+            .refused
+            .or(self.lacks_room())
+            .unwrap_or(Reason(ErrorKind::OutOfMemory));
         drop(next);
-        self.renewals.fail(self.size, reason.unwrap_or(Reason(ErrorKind::OutOfMemory)));
+        self.has_next = false;
+        // Where the files that are to go have the room that it lacked, another one is made at once.
+        if !is_full(reason.0) || !self.leaving.let_go() {
+            self.renewals.fail(self.size, reason);
+        }
         if let Some(words) = self.next {
             let _ = words.remove();
         }

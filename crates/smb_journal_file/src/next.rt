@@ -3,7 +3,7 @@
 ghost use Rattle.std.specs.Prelude.{◌≡◌, [], IfOk, IfSome};
 
 use super::disk::DiskFile;
-use super::first::{FIRST_BYTES, first_line};
+use super::first::{first_line, write_least};
 use smb_reason::Reason;
 use std::fs::{File, OpenOptions};
 use std::io::{ErrorKind, Write};
@@ -71,20 +71,23 @@ impl<'a> NextWords<'a> {
         }
     }
 
-    // Makes the next file, with the rights of the journal's, and its first line.
-    fn make_named(&self, file: &File, next: &str, seed: u64) -> Result<File, Reason> {
+    // Makes the next file, with the rights of the journal's, and its first line, into which the second handle writes.
+    fn make_named(&self, file: &File, next: &str, seed: u64) -> Result<(File, File), Reason> {
         let mut options = OpenOptions::new();
         let _ = options.append(true).create_new(true);
         let _ = options.mode(0o600);
         let mut made = options.open(self.rt, next).map_err(reason_of)?;
         lock(&made)?;
+        let mut options = OpenOptions::new();
+        let _ = options.write(true);
+        let line = options.open(self.rt, next).map_err(reason_of)?;
         let rights = file.metadata().map_err(reason_of)?.permissions();
         made.set_permissions(rights).map_err(reason_of)?;
-        let Ok(line) = first_line(self.rt.alloc(), seed) else {
+        let Ok(first) = first_line(self.rt.alloc(), seed, 0) else {
             return Err(Reason(ErrorKind::OutOfMemory));
         };
-        made.write_all(&line).map_err(reason_of)?;
-        Ok(made)
+        made.write_all(&first).map_err(reason_of)?;
+        Ok((made, line))
     }
 
     /// Makes the next file of a journal, whose first batch has this seed; None where the journal's path is that of another
@@ -98,7 +101,7 @@ impl<'a> NextWords<'a> {
         let (_, next) = self.names()?;
         self.remove_left(next.as_str())?;
         match self.make_named(file, next.as_str(), seed) {
-            Ok(made) => Ok(Some(DiskFile::beside(self.rt, made, FIRST_BYTES as u64))),
+            Ok((made, line)) => Ok(Some(DiskFile::beside(self.rt, made, line))),
             Err(reason) => {
                 let _ = self.remove_left(next.as_str());
                 Err(reason)
@@ -106,10 +109,19 @@ impl<'a> NextWords<'a> {
         }
     }
 
-    /// Gives the next file the journal's name, where that is still the name of the journal's file.
-    pub(crate) fn give_name(&self, file: &File) -> Result<(), Reason> {
+    /// Gives the next file the journal's name, where that is still the name of the journal's file. Before that its
+    /// first line, into which `line` writes, gets the number of its bytes, and lasts.
+    pub(crate) fn give_name(
+        &self,
+        file: &File,
+        line: &Option<File>,
+        size: u64,
+    ) -> Result<(), Reason> {
         if !self.is_of(file)? {
             return Err(Reason(ErrorKind::NotFound));
+        }
+        if let Some(line) = line {
+            write_least(self.rt.alloc(), line, size)?;
         }
         let (name, next) = self.names()?;
         fs::rename(self.rt, next.as_str(), name.as_str()).map_err(reason_of)

@@ -5,8 +5,9 @@ use std::time::Instant;
 /// How many times as long as a slice took others are served before the next one.
 const SERVED: u64 = 3;
 
-/// How many bytes of changes may be put behind a slice before the next one is due at once.
-const CHANGES: u64 = 3 << 16;
+/// Where changes are this part of all slices, an eighth, the next slice is due at once: one of 1 MiB for 128 KiB of
+/// them.
+const PART: u64 = 8;
 
 /// When slices were written.
 #[derive(Drop)]
@@ -16,8 +17,11 @@ pub(crate) struct Pace<'a> {
     ended: Option<Instant>,
     // How many microseconds the last slice took to last.
     took: u64,
-    // How many bytes were put behind it.
-    behind: u64,
+    // How many bytes were written last: changes, or a slice, which alone is waited for.
+    last: u64,
+    // How many bytes were written before as changes, and how many as slices.
+    changes: u64,
+    slices: u64,
 }
 
 /// How many microseconds passed since a moment; none where it is not known.
@@ -42,17 +46,22 @@ impl<'a> Pace<'a> {
             begun: None,
             ended: None,
             took: 0,
-            behind: 0,
+            last: 0,
+            changes: 0,
+            slices: 0,
         }
     }
 
-    /// So many bytes were written.
+    /// These bytes were written.
     pub(crate) fn note_written(&mut self, count: u64) {
-        self.behind = self.behind.saturating_add(count);
+        self.changes = self.changes.saturating_add(self.last);
+        self.last = count;
     }
 
-    /// What was written is waited for.
+    /// What was written last is waited for: it is a slice.
     pub(crate) fn begin(&mut self) {
+        self.slices = self.slices.saturating_add(self.last);
+        self.last = 0;
         self.begun = Instant::now(self.rt).ok();
     }
 
@@ -60,12 +69,16 @@ impl<'a> Pace<'a> {
     pub(crate) fn end(&mut self) {
         self.took = passed_since(self.rt, &self.begun);
         self.ended = Instant::now(self.rt).ok();
-        self.behind = 0;
+    }
+
+    /// How many bytes all slices have.
+    pub(crate) fn slices(&self) -> u64 {
+        self.slices
     }
 
     /// Whether the next slice is to be written now.
     pub(crate) fn is_due(&self) -> bool {
-        if self.ended.is_none() || self.behind >= CHANGES {
+        if self.ended.is_none() || self.changes.saturating_add(self.last) >= self.slices / PART {
             return true;
         }
         passed_since(self.rt, &self.ended) >= self.took.saturating_mul(SERVED)

@@ -2,7 +2,9 @@
 
 use smb_reason::Reason;
 
-/// How many bytes a journal may have beside those that its files need, and three quarters of these.
+/// How many bytes a journal may have beside those that its files need, and half of these, before it is written anew.
+/// Meanwhile changes may be half of the slices' bytes and a turn's: a turn has 512 KiB at most, and where changes pass
+/// an eighth of the slices one of 1 MiB is written in each. So it stays below twice what its files need and 64 MiB.
 const SPARE: u64 = 48 << 20;
 
 /// How many bytes longer a journal gets before it is tried again, where its next file could not be written.
@@ -22,7 +24,7 @@ pub enum Renewed {
 pub struct Renewals {
     count: u64,
     last: Option<Renewed>,
-    // The fewest bytes that the files need, and how many more than these were needed last.
+    // The fewest bytes that the files need, and how many more than these the last slices had.
     needed: u64,
     beside: u64,
     // How long the journal is before another one is made.
@@ -41,19 +43,19 @@ impl Renewals {
         }
     }
 
-    /// Whether a journal of this size is to be written anew, whose files need so many bytes at least.
+    /// Whether a journal of this size is to be written anew, whose files need `needed` bytes at least.
     pub(crate) fn is_due(&mut self, size: u64, needed: u64) -> bool {
         self.needed = needed;
         let kept = needed.saturating_add(self.beside);
-        let most = kept.saturating_add(kept / 4 * 3).saturating_add(SPARE);
+        let most = kept.saturating_add(kept / 2).saturating_add(SPARE);
         size > most && size >= self.not_before
     }
 
-    /// A file of `now` bytes took the place of one of `before`.
-    pub(crate) fn end(&mut self, before: u64, now: u64) {
+    /// A file of `now` bytes took the place of one of `before`. Its slices have `slices` bytes; the others are changes.
+    pub(crate) fn end(&mut self, before: u64, now: u64, slices: u64) {
         self.count = self.count.saturating_add(1);
         self.last = Some(Renewed::Done { now, before });
-        self.beside = now.saturating_sub(self.needed);
+        self.beside = slices.saturating_sub(self.needed);
         self.not_before = 0;
     }
 

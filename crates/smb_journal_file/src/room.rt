@@ -2,6 +2,7 @@
 
 ghost use Rattle.std.specs.Prelude.{◌≡◌, ◌≤◌, true};
 
+use super::leaving::Leaving;
 use smb_reason::Reason;
 use std::fs::File;
 use std::io::{ErrorKind, Write};
@@ -103,31 +104,44 @@ pub fn is_full(kind: ErrorKind) -> bool {
     matches!(kind, ErrorKind::StorageFull | ErrorKind::QuotaExceeded)
 }
 
-/// Writes bytes at the end of a file, which has `end` bytes. Where the disk has no room, this much is given back to it,
-/// and they are written once more. After an error some of them may be there, and not all.
-pub fn write_at_end(
-    file: &mut File,
-    end: u64,
-    room: &mut Option<RoomFile>,
-    bytes: &[u8],
-) -> Result<(), Reason> {
+// Writes bytes at the end of a file, which has `end` bytes. Where the disk has no room none of them is there.
+fn write_or_cut(file: &mut File, end: u64, bytes: &[u8]) -> Result<(), Reason> {
     let reason = match file.write_all(bytes) {
         Ok(()) => return Ok(()),
         Err(error) => Reason(error.kind()),
     };
+    if is_full(reason.0)
+        && let Err(error) = file.set_len(end)
+    {
+        return Err(Reason(error.kind()));
+    }
+    Err(reason)
+}
+
+/// Writes bytes at the end of a file, which has `end` bytes. Where the disk has no room, they are written once more:
+/// first without the files that are to go, then with this much of the room given back. After an error some of them may
+/// be there, and not all.
+pub(crate) fn write_at_end(
+    file: &mut File,
+    end: u64,
+    room: &mut Option<RoomFile>,
+    leaving: &mut Leaving,
+    bytes: &[u8],
+) -> Result<(), Reason> {
+    let reason = match write_or_cut(file, end, bytes) {
+        Ok(()) => return Ok(()),
+        Err(reason) => reason,
+    };
     if !is_full(reason.0) {
         return Err(reason);
+    }
+    if leaving.let_go() && write_or_cut(file, end, bytes).is_ok() {
+        return Ok(());
     }
     let Some(room) = room else {
         return Err(reason);
     };
     room.lacks = Some(reason);
-    if let Err(error) = file.set_len(end) {
-        return Err(Reason(error.kind()));
-    }
     room.give_back(bytes.len() as u64)?;
-    match file.write_all(bytes) {
-        Ok(()) => Ok(()),
-        Err(error) => Err(Reason(error.kind())),
-    }
+    write_or_cut(file, end, bytes)
 }

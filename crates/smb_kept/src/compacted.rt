@@ -32,18 +32,21 @@ struct Batches<'a, W: Write> {
     seed: u64,
     number: u64,
     batch: OpenBatch,
+    /// How many bytes the batches have that were written.
+    size: u64,
 }
 
 impl<'a, W: Write> Batches<'a, W> {
-    /// No batch yet, behind a first line with this seed.
-    fn begin(alloc: Global, out: &'a mut W, seed: u64) -> Result<Self, KeptFault> {
-        let line = first_line(alloc, seed)?;
+    /// No batch yet, behind a first line with this seed, which says that there are `least` bytes behind it.
+    fn begin(alloc: Global, out: &'a mut W, seed: u64, least: u64) -> Result<Self, KeptFault> {
+        let line = first_line(alloc, seed, least)?;
         out.write_all(&line).map_err(fault_of_output)?;
         Ok(Batches {
             out,
             seed,
             number: 1,
             batch: OpenBatch::new(alloc),
+            size: 0,
         })
     }
 
@@ -58,6 +61,8 @@ impl<'a, W: Write> Batches<'a, W> {
         self.out
             .write_all(self.batch.as_vec())
             .map_err(fault_of_output)?;
+        let size = self.batch.as_vec().len() as u64;
+        self.size = self.size.saturating_add(size);
         self.batch.clear();
         self.seed = seed;
         self.number = self.number.saturating_add(1);
@@ -116,16 +121,17 @@ fn put_file<T: Tree, W: Write>(
     Ok(())
 }
 
-/// Writes a journal of a tree's files, to be read from its first line on. `numbers` are those of all entries, in rising
-/// order; where none has one it is passed over.
-pub(crate) fn write_files<T: Tree, W: Write>(
+/// Writes a journal of a tree's files whose first line says that there are `least` bytes behind it, and returns how
+/// many there are.
+fn write_batches<T: Tree, W: Write>(
     alloc: Global,
     tree: &T,
     numbers: &[EntryNo],
     seed: u64,
+    least: u64,
     out: &mut W,
-) -> Result<(), KeptFault> {
-    let mut batches = Batches::begin(alloc, out, seed)?;
+) -> Result<u64, KeptFault> {
+    let mut batches = Batches::begin(alloc, out, seed, least)?;
     let mut piece = Vec::new(alloc);
     for number in numbers {
         if let Some(view) = tree.entry(*number) {
@@ -136,7 +142,23 @@ pub(crate) fn write_files<T: Tree, W: Write>(
     }
     let next = tree.next_no().unwrap_or(EntryNo::MAX);
     batches.put(Change::Next { next })?;
-    batches.write_batch()
+    batches.write_batch()?;
+    Ok(batches.size)
+}
+
+/// Writes a journal of a tree's files, to be read from its first line on. `numbers` are those of all entries, in rising
+/// order; where none has one it is passed over. Its bytes are counted first, so that a part of it is known for one.
+fn write_files<T: Tree, W: Write>(
+    alloc: Global,
+    tree: &T,
+    numbers: &[EntryNo],
+    seed: u64,
+    out: &mut W,
+) -> Result<(), KeptFault> {
+    let mut nowhere = io::sink();
+    let size = write_batches(alloc, tree, numbers, seed, 0, &mut nowhere)?;
+    write_batches(alloc, tree, numbers, seed, size, out)?;
+    Ok(())
 }
 
 /// The numbers of a tree's entries, in rising order.

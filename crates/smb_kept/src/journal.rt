@@ -7,10 +7,10 @@ use crate::fault::KeptFault;
 use crate::files::{
     cut, fault_of_read, give_name, lock, make_file, open_journal, remove_left, settle_name,
 };
-use crate::first_line::{is_begun, read_first, refused, seed_in, write_first};
+use crate::first_line::{FirstLine, is_begun, read_first, refused, write_first};
 use crate::room::open_room;
 use smb_journal::JournalFault;
-use smb_journal_file::{DiskFile, FIRST_BYTES, NextWords};
+use smb_journal_file::{DiskFile, NextWords};
 use smb_journal_start::{KeptTree, Space, StartFault, read, start};
 use std::alloc::Global;
 use std::fs;
@@ -33,6 +33,9 @@ pub enum FileFault {
     Neither,
     #[error("a journal of another version: serve it with the program that made it")]
     OtherVersion,
+    /// It has not all of the bytes that it had when it got its name.
+    #[error("{missing} of its first {wanted} bytes are missing: it is a copy that was broken off, take another")]
+    BrokenOff { missing: u64, wanted: u64 },
     /// The file of its room can't be made or written.
     #[error("the file of its room, which has its name and .room: {0}")]
     Room(JournalFault),
@@ -80,11 +83,11 @@ impl JournalWords<'_> {
     }
 }
 
-/// A file with the seed of its first batch, and whether there may be batches behind its first line.
+/// A file with what its first line says, and whether there may be batches behind that.
 #[derive(Drop)]
 struct Opened {
     file: File,
-    seed: u64,
+    first: FirstLine,
     has_batches: bool,
 }
 
@@ -96,10 +99,11 @@ fn go_on(
     seed: u64,
 ) -> Result<Opened, KeptFault> {
     let line = read_first(alloc, &mut file)?;
-    if let Some(seed) = seed_in(&line) {
+    if let Some(first) = FirstLine::of(&line) {
+        first.check_file(&file)?;
         return Ok(Opened {
             file,
-            seed,
+            first,
             has_batches: true,
         });
     }
@@ -117,10 +121,10 @@ fn begin(
     words: JournalWords<'_>,
     seed: u64,
 ) -> Result<Opened, KeptFault> {
-    write_first(alloc, &mut file, words, seed)?;
+    let first = write_first(alloc, &mut file, words, seed)?;
     Ok(Opened {
         file,
-        seed,
+        first,
         has_batches: false,
     })
 }
@@ -164,20 +168,21 @@ pub fn keep_changes<'a>(
     let alloc = rt.alloc();
     let Opened {
         file,
-        seed,
+        first,
         has_batches,
     } = open(rt, words, seed)?;
     if words.path == next.path {
         next.clear();
     }
-    let mut file = DiskFile::new(file, FIRST_BYTES as u64, words.settles, !has_batches);
-    let found = match read(alloc, &mut file, seed) {
+    let mut file = DiskFile::new(file, first.length, words.settles, !has_batches);
+    let found = match read(alloc, &mut file, first.seed) {
         Ok(found) => found,
         Err(fault) => return Err(KeptFault::of_start(fault)),
     };
+    first.check_size(found.whole)?;
     let left_out = found.cut;
     let file = file.with_room(open_room(rt, room)?).with_next(next);
-    match start(alloc, file, seed, found, space) {
+    match start(alloc, file, first.seed, found, space) {
         Ok(tree) => Ok(Kept { tree, left_out }),
         Err(fault) => Err(KeptFault::of_start(fault)),
     }

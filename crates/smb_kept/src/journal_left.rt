@@ -5,9 +5,9 @@ ghost use Rattle.smb_opens.specs.Good.{UnmarkedTree};
 
 use crate::fault::KeptFault;
 use crate::files::fault_of_read;
-use crate::first_line::{is_begun, read_first, refused, seed_in};
+use crate::first_line::{FirstLine, is_begun, read_first, refused};
 use smb_engine::NodeTree;
-use smb_journal_file::{DiskFile, FIRST_BYTES};
+use smb_journal_file::DiskFile;
 use smb_journal_start::{Space, files_left, read};
 use smb_tree::EntryNo;
 use std::fs;
@@ -35,16 +35,18 @@ pub fn journal_files(rt: &HostRuntime, path: &str, space: Space) -> Result<Journ
     let alloc = rt.alloc();
     let mut file = fs::open(rt, path).map_err(fault_of_read)?;
     let line = read_first(alloc, &mut file)?;
-    let seed = match seed_in(&line) {
-        Some(seed) => Some(seed),
-        None if is_begun(&line) => None,
+    let (first, is_whole) = match FirstLine::of(&line) {
+        Some(first) => (first, true),
+        None if is_begun(&line) => (FirstLine::new(0), false),
         None => return Err(KeptFault::File(refused(&line))),
     };
-    let mut file = DiskFile::new(file, FIRST_BYTES as u64, false, seed.is_none());
-    let found = match read(alloc, &mut file, seed.unwrap_or(0)) {
+    first.check_file(&file)?;
+    let mut file = DiskFile::new(file, first.length, false, !is_whole);
+    let found = match read(alloc, &mut file, first.seed) {
         Ok(found) => found,
         Err(fault) => return Err(KeptFault::of_start(fault)),
     };
+    first.check_size(found.whole)?;
     let (batches, whole, left_out) = (found.number.saturating_sub(1), found.whole, found.cut);
     match files_left(alloc, found, space) {
         Ok(left) => Ok(JournalFiles {
