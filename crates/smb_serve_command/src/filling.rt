@@ -35,6 +35,18 @@ pub fn put_in<A: Authenticator + Drop, T: Tree + Drop, O: Opens + Drop>(
     put_folder_in(serving.rt, serving.limits, folder, path, &mut line)
 }
 
+/// Serves a share of which nothing is kept, once the files of a folder are put in.
+fn serve_filled<A: Authenticator + Drop, T: Tree + Drop, O: Opens + Drop>(
+    serving: Serving<'_, '_>,
+    folder: &str,
+    path: &str,
+    mut share: Share<A, T, O>,
+) -> Result<(), Fault> {
+    let mut clock = ServeClock::new(serving.rt, serving.words.clock);
+    put_in(serving, folder, path, &mut share, &mut clock, None)?;
+    serve_peers(serving, &mut share, &mut clock, 2)
+}
+
 /// Serves a new share that begins with the files of a folder, of which nothing is kept.
 pub fn serve_folder<A: Authenticator + Drop>(
     serving: Serving<'_, '_>,
@@ -48,11 +60,7 @@ pub fn serve_folder<A: Authenticator + Drop>(
     mailbox.close();
     let login = with_own_client(alloc, authenticator, &mailbox)?;
     match share_of(alloc, limited, login) {
-        Ok(mut share) => {
-            let mut clock = ServeClock::new(serving.rt, serving.words.clock);
-            put_in(serving, folder, path.as_str(), &mut share, &mut clock, None)?;
-            serve_peers(serving, &mut share, &mut clock, 2)
-        }
+        Ok(share) => serve_filled(serving, folder, path.as_str(), share),
         Err(fault) => Err(Fault::Kept(fault)),
     }
 }

@@ -17,7 +17,7 @@ use smb_command_parts::{
     read_accounts, say, say_notices,
 };
 use smb_config::Configuration;
-use smb_engine::{Authenticator, HandleTable, NodeTree, Opens, Share, Tree};
+use smb_engine::{Authenticator, Opens, Share, Tree};
 use smb_journal::{Form, LimitedConfig};
 use smb_kept::{JournalWords, KeepWords, KeptFault, share_of};
 use smb_peers::{Clock, Peers, Stopping, Usage};
@@ -292,10 +292,10 @@ pub fn serve_watched<
     let _ = serve_until_watched(share, peers, clock, words.turns, &mut observer, watcher);
 }
 
-/// Serves a share whose next connection has the number `next`, for so many turns.
-pub fn serve_peers<A: Authenticator + Drop>(
+/// Serves a share whose next connection has the number `next`, for as many turns as the words say.
+pub fn serve_peers<A: Authenticator + Drop, T: Tree + Drop, O: Opens + Drop>(
     serving: Serving<'_, '_>,
-    share: &mut Share<A, NodeTree, HandleTable>,
+    share: &mut Share<A, T, O>,
     clock: &mut ServeClock<'_>,
     next: u64,
 ) -> Result<(), Fault> {
@@ -315,15 +315,23 @@ pub fn serve_peers<A: Authenticator + Drop>(
     }
 }
 
-/// Serves a new share of which nothing is kept, for so many turns.
+/// Serves a share of which nothing is kept, and which no connection came to yet.
+fn serve_unkept<A: Authenticator + Drop, T: Tree + Drop, O: Opens + Drop>(
+    serving: Serving<'_, '_>,
+    mut share: Share<A, T, O>,
+) -> Result<(), Fault> {
+    let mut clock = ServeClock::new(serving.rt, serving.words.clock);
+    serve_peers(serving, &mut share, &mut clock, 1)
+}
+
+/// Serves a new share of which nothing is kept.
 fn serve_new<A: Authenticator + Drop>(
     serving: Serving<'_, '_>,
     limited: LimitedConfig,
     authenticator: A,
 ) -> Result<(), Fault> {
-    let mut clock = ServeClock::new(serving.rt, serving.words.clock);
     match share_of(serving.rt.alloc(), limited, authenticator) {
-        Ok(mut share) => serve_peers(serving, &mut share, &mut clock, 1),
+        Ok(share) => serve_unkept(serving, share),
         Err(fault) => Err(Fault::Kept(fault)),
     }
 }

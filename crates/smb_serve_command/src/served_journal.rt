@@ -10,22 +10,30 @@ use crate::serve::{Serving, end_of, listening_peers, serve_watched};
 use crate::shown_journal::room_of;
 use crate::sight::Sight;
 use smb_command_parts::{Fault, Severity, random_number, say, say_cut_batch};
-use smb_engine::{Authenticator, HandleTable, ServeFault, Share};
+use smb_engine::{Authenticator, Config, HandleTable, Opens, ServeFault, Share, Tree};
 use smb_journal::{LimitedConfig, Mailbox};
 use smb_journal_file::NextWords;
 use smb_journal_start::{KeptTree, Space};
 use smb_kept::{JournalWords, Kept, KeptFault, KeptPeers, keep_changes, path_of};
 use smb_peers::{Peers, Stopping};
 use smb_reason::{Reason, Shown};
+use smb_wire::limits::Limits;
+use std::alloc::Global;
 
 /// A share whose files are kept.
 type KeptShare<'a, A> = Share<A, KeptTree<'a>, HandleTable>;
 
 /// Serves a share whose files are kept to peers, and ends all connections. Gives the peers, and why not all is kept;
 /// None where it is.
-fn serve_kept_to<'a, A: Authenticator + Drop, P: Peers + Stopping + Drop>(
+fn serve_kept_to<
+    'a,
+    A: Authenticator + Drop,
+    T: Tree + OnDisk + Drop,
+    O: Opens + Drop,
+    P: Peers + Stopping + Drop,
+>(
     serving: Serving<'a, '_>,
-    share: &mut KeptShare<'_, A>,
+    share: &mut Share<A, T, O>,
     peers: P,
     clock: &mut ServeClock<'_>,
     sight: &Sight<'a>,
@@ -41,9 +49,9 @@ fn serve_kept_to<'a, A: Authenticator + Drop, P: Peers + Stopping + Drop>(
 
 /// Serves a share whose files are kept, and whose next connection has the number `next`, for as many turns as the words
 /// say.
-fn serve_kept<A: Authenticator + Drop>(
+fn serve_kept<A: Authenticator + Drop, T: Tree + OnDisk + Drop, O: Opens + Drop>(
     serving: Serving<'_, '_>,
-    share: &mut KeptShare<'_, A>,
+    share: &mut Share<A, T, O>,
     clock: &mut ServeClock<'_>,
     next: u64,
 ) -> Result<(), Fault> {
@@ -61,6 +69,26 @@ fn serve_kept<A: Authenticator + Drop>(
     match serve_kept_to(serving, share, peers, clock, &sight) {
         Ok((peers, failure)) => end_of(rt.alloc(), peers, share.usage(), "journal", failure),
         Err(fault) => Err(fault),
+    }
+}
+
+/// A share over a tree that holds files, none of which is marked.
+fn share_over<A: Authenticator + Drop, T: Tree + Drop>(
+    alloc: Global,
+    limits: Limits,
+    config: Config,
+    authenticator: A,
+    tree: T,
+) -> Result<Share<A, T, HandleTable>, Fault>
+    requires unmarked { UnmarkedTree (T.content tree) }
+    requires capacity { (T.content tree).capacity ≡ config.capacity }
+    requires limits { (T.content tree).limits ≡ limits }
+{
+    let opens = HandleTable::new(alloc);
+    match Share::over(alloc, limits, config, authenticator, tree, opens) {
+        Ok(share) => Ok(share),
+        Err(ServeFault::NoMemory { .. }) => Err(Fault::Kept(KeptFault::NoMemory)),
+        Err(_) => Err(Fault::Kept(KeptFault::BadConfig)),
     }
 }
 
@@ -82,12 +110,16 @@ fn kept_share<'a, A: Authenticator + Drop>(
     };
     let Kept { tree, left_out } = keep_changes(next, journal, room, random_number()?, space)?;
     say_cut_batch(rt, journal.path, left_out);
-    let opens = HandleTable::new(rt.alloc());
-    match Share::over(rt.alloc(), limits, config, authenticator, tree, opens) {
-        Ok(share) => Ok(share),
-        Err(ServeFault::NoMemory { .. }) => Err(Fault::Kept(KeptFault::NoMemory)),
-        Err(_) => Err(Fault::Kept(KeptFault::BadConfig)),
-    }
+    share_over(rt.alloc(), limits, config, authenticator, tree)
+}
+
+/// Serves a share whose files are kept, and which no connection came to yet.
+fn serve_begun<A: Authenticator + Drop, T: Tree + OnDisk + Drop, O: Opens + Drop>(
+    serving: Serving<'_, '_>,
+    mut share: Share<A, T, O>,
+) -> Result<(), Fault> {
+    let mut clock = ServeClock::new(serving.rt, serving.words.clock);
+    serve_kept(serving, &mut share, &mut clock, 1)
 }
 
 /// Serves a share with the files of a journal, which is made where it is not there.
@@ -103,10 +135,7 @@ pub fn serve_journal<A: Authenticator + Drop>(
         path: journal.path,
     };
     match kept_share(next, journal, room.as_str(), limited, authenticator) {
-        Ok(mut share) => {
-            let mut clock = ServeClock::new(serving.rt, serving.words.clock);
-            serve_kept(serving, &mut share, &mut clock, 1)
-        }
+        Ok(share) => serve_begun(serving, share),
         Err(fault) => Err(fault),
     }
 }
@@ -121,16 +150,16 @@ pub fn say_not_read(rt: &HostRuntime, folder: &str, journal: JournalWords<'_>) {
 }
 
 /// Serves a share that is kept in a journal that was made, once the files of a folder are put in and it has its name.
-fn serve_filled<A: Authenticator + Drop>(
+fn serve_filled<A: Authenticator + Drop, T: Tree + OnDisk + Drop, O: Opens + Drop>(
     serving: Serving<'_, '_>,
     folder: &str,
     path: &str,
     made: JournalWords<'_>,
     journal: JournalWords<'_>,
-    share: &mut KeptShare<'_, A>,
+    mut share: Share<A, T, O>,
 ) -> Result<(), Fault> {
     let mut clock = ServeClock::new(serving.rt, serving.words.clock);
-    if let Err(fault) = put_in(serving, folder, path, share, &mut clock, None) {
+    if let Err(fault) = put_in(serving, folder, path, &mut share, &mut clock, None) {
         return Err(Fault::Kept(match share.server().store().tree().lacks_room() {
             Some(reason) => KeptFault::RecordFailed(reason),
             None => fault,
@@ -138,7 +167,7 @@ fn serve_filled<A: Authenticator + Drop>(
     }
     journal.refuse_bytes(serving.rt)?;
     made.give_name(serving.rt, journal.path)?;
-    serve_kept(serving, share, &mut clock, 2)
+    serve_kept(serving, &mut share, &mut clock, 2)
 }
 
 /// Serves a new share that begins with the files of a folder, and is kept in a journal, which is not there yet: it is
@@ -172,7 +201,7 @@ pub fn serve_journal_folder<A: Authenticator + Drop>(
         path: journal.path,
     };
     let served = match kept_share(next, made, room.path, limited, login) {
-        Ok(mut share) => serve_filled(serving, folder, path.as_str(), made, journal, &mut share),
+        Ok(share) => serve_filled(serving, folder, path.as_str(), made, journal, share),
         Err(fault) => Err(fault),
     };
     if served.is_err() {

@@ -5,11 +5,10 @@ use crate::filling::{put_in, with_own_client};
 use crate::serve::{Serving, end_of, listening_peers, serve_seen};
 use crate::sight::Sight;
 use smb_command_parts::Fault;
-use smb_engine::Authenticator;
+use smb_engine::{Authenticator, Opens, Share, Tree};
 use smb_journal::{LimitedConfig, Mailbox, RecordedClock, RecordedPeers, Recorder};
 use smb_kept::{
-    KeepWords, Keeping, KeptFault, OwnRecord, RecordedShare, own_answer, path_of, recorded_login,
-    share_of,
+    KeepWords, Keeping, KeptFault, OwnRecord, own_answer, path_of, recorded_login, share_of,
 };
 use smb_peers::{Peers, Stopping};
 use smb_reason::Reason;
@@ -26,9 +25,16 @@ struct Shared<'a> {
 
 /// Serves a share of which all is recorded to peers, the next of whose connections has the number `next`. Gives the
 /// peers, and why not all is recorded; None where it is.
-fn serve_recorded_to<'l, 'a, A: Authenticator + Drop, P: Peers + Stopping + Drop>(
+fn serve_recorded_to<
+    'l,
+    'a,
+    A: Authenticator + Drop,
+    T: Tree + Drop,
+    O: Opens + Drop,
+    P: Peers + Stopping + Drop,
+>(
     serving: Serving<'a, '_>,
-    share: &mut RecordedShare<'_, A>,
+    share: &mut Share<A, T, O>,
     peers: P,
     recorder: Recorder<File>,
     next: u64,
@@ -46,9 +52,9 @@ fn serve_recorded_to<'l, 'a, A: Authenticator + Drop, P: Peers + Stopping + Drop
 }
 
 /// Serves a share of which all is recorded, and whose next connection has the number `next`.
-fn serve_begun<'a, A: Authenticator + Drop>(
+fn serve_begun<'a, A: Authenticator + Drop, T: Tree + Drop, O: Opens + Drop>(
     serving: Serving<'a, '_>,
-    share: &mut RecordedShare<'_, A>,
+    share: &mut Share<A, T, O>,
     recorder: Recorder<File>,
     next: u64,
     mailbox: &Mailbox,
@@ -87,6 +93,17 @@ fn keeping_of<A: Authenticator + Drop>(
     Keeping::make(rt, record, limited, requires_signing, authenticator.hello())
 }
 
+/// Serves a share that is recorded, and which no connection came to yet.
+fn serve_new<A: Authenticator + Drop, T: Tree + Drop, O: Opens + Drop>(
+    serving: Serving<'_, '_>,
+    mut share: Share<A, T, O>,
+    recorder: Recorder<File>,
+    mailbox: &Mailbox,
+) -> Result<(), Fault> {
+    let clock = ServeClock::new(serving.rt, serving.words.clock);
+    serve_begun(serving, &mut share, recorder, 1, mailbox, clock)
+}
+
 /// Serves a new share that is recorded.
 pub fn serve_recorded<A: Authenticator + Drop>(
     serving: Serving<'_, '_>,
@@ -103,34 +120,31 @@ pub fn serve_recorded<A: Authenticator + Drop>(
     let login = recorded_login(hello, requires_signing, given, authenticator, &mailbox)?;
     let recorder = keeping.begin(alloc)?;
     match share_of(alloc, limited, login) {
-        Ok(mut share) => {
-            let clock = ServeClock::new(rt, serving.words.clock);
-            serve_begun(serving, &mut share, recorder, 1, &mailbox, clock)
-        }
+        Ok(share) => serve_new(serving, share, recorder, &mailbox),
         Err(fault) => Err(Fault::Kept(fault)),
     }
 }
 
 /// Serves a share of a path that is recorded in a file that was made, once the files of a folder are put in and the
 /// file has its name.
-fn serve_filled<A: Authenticator + Drop>(
+fn serve_filled<A: Authenticator + Drop, T: Tree + Drop, O: Opens + Drop>(
     serving: Serving<'_, '_>,
     folder: &str,
     path: &str,
     made: KeepWords<'_>,
     record: KeepWords<'_>,
     keeping: Keeping,
-    share: &mut RecordedShare<'_, A>,
+    mut share: Share<A, T, O>,
     mailbox: &Mailbox,
 ) -> Result<(), Fault> {
     let alloc = serving.rt.alloc();
     let mut recorder = keeping.begin(alloc)?;
     let mut clock = ServeClock::new(serving.rt, serving.words.clock);
     let own = OwnRecord::new(&mut recorder, mailbox, own_answer(alloc)?);
-    put_in(serving, folder, path, share, &mut clock, Some(own))?;
+    put_in(serving, folder, path, &mut share, &mut clock, Some(own))?;
     record.refuse_existing(serving.rt)?;
     made.give_name(serving.rt, record.path)?;
-    serve_begun(serving, share, recorder, 2, mailbox, clock)
+    serve_begun(serving, &mut share, recorder, 2, mailbox, clock)
 }
 
 /// Serves a new share that begins with the files of a folder, and is recorded from its first event on, in a file that
@@ -158,14 +172,14 @@ pub fn serve_recorded_folder<A: Authenticator + Drop>(
     let mailbox = Mailbox::new(alloc);
     let login = with_own_client(alloc, authenticator, &mailbox)?;
     let served = match share_of(alloc, limited, login) {
-        Ok(mut share) => serve_filled(
+        Ok(share) => serve_filled(
             serving,
             folder,
             path.as_str(),
             made,
             record,
             keeping,
-            &mut share,
+            share,
             &mailbox,
         ),
         Err(fault) => Err(Fault::Kept(fault)),
