@@ -1,89 +1,21 @@
 """The status of a share: who asks at its door, what he is answered, and who is kept out."""
 import datetime
-import http.client
-import json
 import os
-import re
 import socket
 import tempfile
 import time
 
 from tests.smb import ntlm
-from tests.smb.client import ALL_ACCESS
-from tests.smb.frames import write
-from tests.smb.kept import Looking, differs
+from tests.smb.kept import differs
 from tests.smb.program import GUEST, TOP
-from tests.smb.working import CREATE
+from tests.status import asked, shown
+from tests.status.watched import SOON, Watched, metrics_of, works
 
 PAGES = ('/', '/status.json', '/metrics')
-# How many ask at once, and within how many seconds each is answered; after how many one is ended who asks too slowly.
-AT_ONCE, SOON, PATIENCE = 100, 30, 5
+# How many ask at once; after how many seconds one is ended who asks too slowly.
+AT_ONCE, PATIENCE = 100, 5
 # How long a file of room is.
 ROOM = 123_456
-
-
-class Watched:
-    """A share with a status, by its port."""
-
-    def __init__(self, program, *words, config=GUEST):
-        self.share = program.serve('--config', config, '--status', '127.0.0.1:0', *words)
-
-    def __enter__(self):
-        line = self.share.process.stderr.readline().decode()
-        found = re.fullmatch(r'status at http://127\.0\.0\.1:(\d+)/\n', line)
-        if found is None:
-            self.share.__exit__()
-            raise AssertionError(f'it says {line!r}')
-        self.port = int(found[1])
-        return self
-
-    def __exit__(self, *words):
-        self.share.__exit__(*words)
-
-    def get(self, path, method='GET', **fields):
-        """The status, the fields and the body of an answer."""
-        asked = http.client.HTTPConnection('127.0.0.1', self.port, timeout=SOON)
-        asked.request(method, path, headers=fields)
-        answer = asked.getresponse()
-        return answer.status, answer.headers, answer.read().decode()
-
-    def json(self):
-        status, _, body = self.get('/status.json')
-        return json.loads(body) if status == 200 else {}
-
-    def raw(self, data):
-        """What is answered to bytes, up to the end."""
-        with socket.create_connection(('127.0.0.1', self.port), SOON) as asked:
-            answer = b''
-            try:
-                asked.sendall(data)
-                while part := asked.recv(65_536):
-                    answer += part
-            except ConnectionError:
-                pass
-            return answer
-
-
-def works(share, name):
-    """A client with a file that is open and has bytes; it is gone once nobody has it."""
-    client = Looking(share).comes_in()
-    number = client.opens(name, ALL_ACCESS, CREATE)
-    client.asks(write(client.next_id(), number, 0, b'x' * 5_000, client.session, 1), 0, None)
-    return client
-
-
-def metrics_of(body):
-    """The values by name and labels; each name has its HELP and TYPE before."""
-    found, known = {}, set()
-    for line in body.splitlines():
-        if line.startswith('# '):
-            known.add(line.split()[2])
-        else:
-            name, _, value = line.rpartition(' ')
-            if name.partition('{')[0] not in known:
-                raise AssertionError(f'{line!r} has no HELP and TYPE')
-            found[name] = float(value)
-    return found
 
 
 def who_is_there_is_shown(program):
@@ -236,7 +168,7 @@ def an_address_is_looked_at(program):
 
 TESTS = (who_is_there_is_shown, names_are_shown_where_they_are_asked_for, users_and_refusals_are_shown,
          what_is_no_request_for_it_is_refused, who_asks_slowly_is_ended, many_are_answered, a_journal_is_shown,
-         a_journals_room_and_last_write_are_shown, an_address_is_looked_at)
+         a_journals_room_and_last_write_are_shown, an_address_is_looked_at, *asked.TESTS, *shown.TESTS)
 
 
 def tests(words):

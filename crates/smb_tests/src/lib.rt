@@ -24,8 +24,6 @@ mod serving;
 #[cfg(test)]
 mod shown;
 #[cfg(test)]
-mod status;
-#[cfg(test)]
 mod streams;
 #[cfg(test)]
 mod talk;
