@@ -13,7 +13,7 @@ from tests.status.watched import SOON, Watched, metrics_of, works
 
 PAGES = ('/', '/status.json', '/metrics')
 # How many ask at once; after how many seconds one is ended who asks too slowly.
-AT_ONCE, PATIENCE = 100, 5
+AT_ONCE, PATIENCE = 1_000, 5
 # How long a file of room is.
 ROOM = 123_456
 
@@ -100,15 +100,17 @@ def who_asks_slowly_is_ended(program):
 def many_are_answered(program):
     """So many who ask at once, and a client that is served beside."""
     with Watched(program) as it:
-        asked = [socket.create_connection(('127.0.0.1', it.port), SOON) for _ in range(AT_ONCE)]
+        count = AT_ONCE // 10 if program.is_unproved else AT_ONCE
+        asked = [socket.create_connection(('127.0.0.1', it.port), SOON) for _ in range(count)]
         client = works(it.share, 'file')
         for i, one in enumerate(asked):
             one.sendall(f'GET {PAGES[i % 3]} HTTP/1.1\r\nHost: localhost\r\n\r\n'.encode())
         client.client.end()
-        found = [one.recv(12) for one in asked]
+        found = set()
         for one in asked:
+            found.add(one.recv(12))
             one.close()
-        return not differs(set(found), {b'HTTP/1.1 200'}, 'answers')
+        return not differs(found, {b'HTTP/1.1 200'}, 'answers')
 
 
 def a_journal_is_shown(program):
