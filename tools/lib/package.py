@@ -73,7 +73,7 @@ def gate_line(given):
     of, line = re.search(r"clean clone of (\w+)", text), re.search(r"`(\d+ passed, \d+ failed)`", text)
     if not of or not line:
         raise NotMade("docs/GATE.md has no last line of the gate: --gate LINE gives one")
-    return f"{line[1]} (the last run from nothing, of {of[1]}: docs/GATE.md)"
+    return f"{line[1]} (of {of[1]}: docs/GATE.md)"
 
 
 def without_symbols(program):
