@@ -1,6 +1,7 @@
 """The status of a share: who asks at its door, what he is answered, and who is kept out."""
 import datetime
 import os
+import resource
 import socket
 import tempfile
 import time
@@ -12,8 +13,9 @@ from tests.status import asked, shown
 from tests.status.watched import SOON, Watched, metrics_of, works
 
 PAGES = ('/', '/status.json', '/metrics')
-# How many ask at once; after how many seconds one is ended who asks too slowly.
-AT_ONCE, PATIENCE = 1_000, 5
+# How many ask at once; how many descriptors a test has beside theirs; after how many seconds one is ended who asks too
+# slowly.
+AT_ONCE, SPARE, PATIENCE = 1_000, 64, 5
 # How long a file of room is.
 ROOM = 123_456
 
@@ -97,10 +99,17 @@ def who_asks_slowly_is_ended(program):
         return not differs((len(ended), took > PATIENCE - 1), (2, True), f'ended, behind {took:.1f} seconds')
 
 
+def descriptors():
+    """How many descriptors this process may have, as many as the system lets it."""
+    _, most = resource.getrlimit(resource.RLIMIT_NOFILE)
+    resource.setrlimit(resource.RLIMIT_NOFILE, (most, most))
+    return most
+
+
 def many_are_answered(program):
     """So many who ask at once, and a client that is served beside."""
     with Watched(program) as it:
-        count = AT_ONCE // 10 if program.is_unproved else AT_ONCE
+        count = min(AT_ONCE // 10 if program.is_unproved else AT_ONCE, descriptors() - SPARE)
         asked = [socket.create_connection(('127.0.0.1', it.port), SOON) for _ in range(count)]
         client = works(it.share, 'file')
         for i, one in enumerate(asked):
