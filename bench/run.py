@@ -43,7 +43,7 @@ SCRIPTS = [
      'hex; a journal has what changes of the files. Without a log nothing is decoded. The last table is of a share that is begun '
      'again from its journal.'),
     ('watched.py', [], 'A share with 50 other clients and 1,000 opens, whose status is asked for, or not. One client waits for each answer; '
-     'three servers take turns, and processors are kept awake (bench/awake.py). Medians of eleven of the server\'s own processor time and of '
+     'three servers take turns, and processors are kept awake (bench/awake.py). Medians of 31 of the server\'s own processor time and of '
      'the time by the clock, and the longest wait in all turns.'),
     ('requests.py', [], 'By how many requests smbclient puts and gets a file of 16 MiB, in dialect 2.1; each time 7 or 8 of them are other '
      'requests than READs and WRITEs.'),

@@ -20,7 +20,7 @@ from tests.smb.kept import Looking
 from tests.smb.program import GUEST, Program
 from tests.status import Watched
 
-TURNS, OTHERS, OPENS, EVERY = 11, 50, 1_000, 0.1
+TURNS, OTHERS, OPENS, EVERY = 31, 50, 1_000, 0.1
 ECHOS, READS = 20_000, 6_000
 PAGES = ('/', '/metrics')
 PLAIN, WATCHED, ASKED = 'no --status', '--status', '--status, asked ten times a second'

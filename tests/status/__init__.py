@@ -58,8 +58,9 @@ def users_and_refusals_are_shown(program):
             ntlm.logs_in(client, 'ann', bytes.fromhex(ntlm.PASSWORD_HASH))
             ntlm.logs_in(wrong, 'ann', bytes(16))
             found = it.json()
-            users = [session['user'] for connection in found['connections'] for session in connection['sessions']]
-            return not differs((users[:1], found['refusals'].get('STATUS_LOGON_FAILURE')), (['ann'], 1), found)
+            users = [(session['user'], session['signed']) for connection in found['connections']
+                     for session in connection['sessions']]
+            return not differs((users[:1], found['refusals'].get('STATUS_LOGON_FAILURE')), ([('ann', True)], 1), found)
 
 
 def what_is_no_request_for_it_is_refused(program):

@@ -7,7 +7,7 @@ import time
 
 from tests.smb.client import OPEN_IF, Client
 from tests.smb.frames import create, echoes, frame, header, lock, read
-from tests.smb.kept import Looking, differs
+from tests.smb.kept import Heard, Looking, differs
 from tests.smb.program import TOP
 from tests.smb.working import CREATE, DELETE_ON_CLOSE, EXCLUSIVE, FAIL_IMMEDIATELY, FILE_ID_AT
 from tests.status.watched import Watched
@@ -150,7 +150,7 @@ def once(it, holds):
 
 
 def who_may_only_read_is_shown(program):
-    """And what came and went; behind the end of a client nothing of it is there."""
+    """And what came and went, to the byte; behind the end of a client nothing of it is there."""
     with tempfile.TemporaryDirectory() as folder, Watched(program, config=config_of(folder)) as it:
         reader = Reading(it.share).comes_in()
         (connection,) = it.json()['connections']
@@ -160,28 +160,34 @@ def who_may_only_read_is_shown(program):
             differs(connection['sessions'], [{'number': 1, 'user': 'bob', 'signed': False, 'read_only': True}], 'session'),
             differs((behind['sessions'], behind['limits']['connections']['used'], behind['requests']['TREE_CONNECT']),
                     (0, 0, 1), 'behind its end'),
-            differs(min(behind['received_bytes'], behind['sent_bytes']) > 250, True, 'counts')])
+            differs((behind['received_bytes'], behind['sent_bytes']), (reader.client.sent, len(reader.client.heard)),
+                    'counts')])
 
 
 class Reading(Looking):
     """A client of the user who may only read."""
 
     def logs_in(self):
-        self.client = Token(self.client, b'b')
+        self.client.end()
+        self.client = Token(self.port, b'b')
         super().logs_in()
 
+    def __init__(self, share):
+        self.port = share.port
+        super().__init__(share)
 
-class Token:
-    """A client's stream, whose SESSION_SETUP has another token."""
 
-    def __init__(self, client, token):
-        self.client, self.token = client, token
+class Token(Heard):
+    """A client's stream, whose SESSION_SETUP has another token; with how many bytes were sent."""
+
+    def __init__(self, port, token):
+        super().__init__(port)
+        self.token, self.sent = token, 0
 
     def send(self, data):
-        return self.client.send(data[:-1] + self.token if data[16:18] == b'\1\0' else data)
-
-    def __getattr__(self, name):
-        return getattr(self.client, name)
+        data = data[:-1] + self.token if data[16:18] == b'\1\0' else data
+        self.sent += len(data)
+        return super().send(data)
 
 
 def only_so_many_rows_are_shown(program):
