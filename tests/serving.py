@@ -256,7 +256,8 @@ def a_clock_before_1970_is_1970(program):
 
 def a_port_that_is_not_allowed_is_refused(program):
     words = ('serve', '--turns', '1', '--listen', '127.0.0.1:80')
-    said = 'listen: failed\n127.0.0.1:80: no right to the port: those below 1024 are the system\'s\n'
+    said = 'listen: failed\n127.0.0.1:80: no right to the port: those below 1024 are the system\'s; ' \
+           'name a higher one, or give the program CAP_NET_BIND_SERVICE\n'
     with odd_system('port') as system:
         return (program.ran(*words, env=system) == (1, b'', 'listen: failed\n')
                 and program.ran(*words, '--explain', env=system) == (1, b'', said))

@@ -1,12 +1,13 @@
 """What a share keeps in a file: nothing acknowledged is lost where the program is killed, a record says what was
 answered, and what is done with a file that is cut, changed, of another kind or full; and folders."""
-from tests.keeping import (broken, compacted, damaged, folders, full, journal, killing, named, recordings, refused,
-                           renewed)
+from tests.keeping import (attributes, broken, compacted, damaged, folders, full, journal, killing, left_out, named,
+                           recordings, refused, renewed, salvaged, synced)
 
 SEED, KILLS = 20_261_126, 20
 PARTS = {'journal': journal.TESTS, 'recordings': recordings.TESTS, 'damaged': damaged.TESTS, 'named': named.TESTS,
-         'many': named.TESTS_OF_MANY, 'folders': folders.TESTS, 'compacted': compacted.TESTS, 'refused': refused.TESTS,
-         'full': full.TESTS, 'renewed': renewed.TESTS, 'broken': broken.TESTS}
+         'many': named.TESTS_OF_MANY, 'folders': folders.TESTS, 'attributes': attributes.TESTS,
+         'left_out': left_out.TESTS, 'compacted': compacted.TESTS, 'refused': refused.TESTS, 'full': full.TESTS,
+         'renewed': renewed.TESTS, 'broken': broken.TESTS, 'salvaged': salvaged.TESTS, 'synced': synced.TESTS}
 
 
 def add_words(reader):

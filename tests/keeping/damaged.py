@@ -68,7 +68,8 @@ def what_is_no_journal_is_refused(program):
                 bytes_of(record): NO_JOURNAL, bytes_of(events): OF_EVENTS}
         found = [is_refused(program, put(os.path.join(folder, 'file'), data), why) for data, why in said.items()]
         absent = os.path.join(folder, 'absent', 'file')
-        wanted = {folder: 'cannot be read: is a directory', absent: 'cannot be written: no such file'}
+        wanted = {folder: 'cannot be read: is a directory; name a file that you may read',
+                  absent: 'cannot be written: no such file'}
         wrong = [differs(begun(program, '--journal', it), (1, f'journal: {it}: {why}\n'), it)
                  for it, why in wanted.items()]
         return all(found) and not any(wrong)
@@ -78,7 +79,7 @@ def one_in_use_is_refused(program):
     """A second server on one journal, which the first one goes on with; and on a record, also as a journal."""
     with tempfile.TemporaryDirectory() as folder:
         journal, record = make(program, os.path.join(folder, 'journal')), os.path.join(folder, 'record')
-        exists = (1, f'record: {record}: cannot be written: it exists already\n')
+        exists = (1, f'record: {record}: cannot be written: it exists already; name a new file\n')
         with keeping(program, '--journal', journal) as share, keeping(program, '--record', record) as recorded:
             client = Looking(share).comes_in()
             found = [is_refused(program, journal, IN_USE), is_refused(program, record, IN_USE),
@@ -94,7 +95,7 @@ def a_record_is_made_over_nothing(program):
         wrong = []
         for data in (b'', b'a text\n'):
             file = put(os.path.join(folder, 'file'), data)
-            for words, why in (((), 'cannot be written: it exists already'), (('--from', folder), EXISTS)):
+            for words, why in (((), 'cannot be written: it exists already; name a new file'), (('--from', folder), EXISTS)):
                 found = begun(program, *words, '--record', file), bytes_of(file), os.listdir(folder)
                 wanted = (1, f'record: {file}: {why}\n'), data, ['file']
                 wrong.append(differs(found, wanted, f'{data} {words}'))
@@ -108,7 +109,7 @@ def one_without_rights_is_refused(program):
         if os.geteuid() == 0:
             print('  left out, since all rights are there', flush=True)
             return True
-        denied = 'cannot be read: permission denied'
+        denied = 'cannot be read: permission denied; name a file that you may read'
         os.chmod(file, 0o400)
         refused = is_refused(program, file, denied)
         os.chmod(file, 0o200)

@@ -151,7 +151,7 @@ def what_is_past_the_limits_is_refused(program):
 
     def below(source):
         os.mkdir(os.path.join(source, 'b'))
-        for name in 'cde':
+        for name in 'cd':
             put(os.path.join(source, 'b', name), b'')
 
     with tempfile.TemporaryDirectory() as folder:

@@ -186,7 +186,7 @@ def room_that_cannot_be_made_is_named(program):
     with tempfile.TemporaryDirectory() as folder:
         file = os.path.join(folder, 'kept')
         os.mkdir(f'{file}.room')
-        wanted = 1, f'journal: {file}: {OF_ITS_ROOM}: cannot be written: is a directory\n'
+        wanted = 1, f'journal: {file}: {OF_ITS_ROOM}: cannot be written: is a directory; move that one away\n'
         found = begun(program, '--journal', file)
         os.rmdir(f'{file}.room')
         return not differs(found, wanted, 'refused') and not differs(seen(program, file), {}, 'then')

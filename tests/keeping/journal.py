@@ -190,7 +190,7 @@ def a_check_is_refused(program):
             wrong.append(differs(found, (1, '', of_start[1]), name))
             wrong.append(differs(found[2].startswith(f'journal: {name}: {said}'), True, found))
         for name, why in ((absent, 'no such file'), (folder, 'is a directory')):
-            said = f'journal: {name}: cannot be read: {why}\n'
+            said = f'journal: {name}: cannot be read: {why}; name a file that you may read\n'
             wrong.append(differs(program.ran('check-journal', name), (1, b'', said), name))
         with open('/dev/full', 'wb') as full:
             found = program.ran('check-journal', file, stdout=full)[::2]
@@ -292,9 +292,11 @@ def another_configuration_goes_on(program):
 
 
 # What is said of files that do not fit a configuration's limits, and its capacity.
-UNFIT = ((b'67108864', b'4096', 'the files take more space than the capacity'),
-         (b'[limits]', b'[limits]\nentries = 3', 'there are more files and folders than the limits allow'),
-         (b'[limits]', b'[limits]\nfile_bytes = 4999', r'file \d+ has more bytes than the limits allow'))
+UNFIT = ((b'67108864', b'4096', 'the files take more space than the capacity: raise capacity'),
+         (b'[limits]', b'[limits]\nentries = 3',
+          'there are more files and folders than the limits allow: raise limits.entries'),
+         (b'[limits]', b'[limits]\nfile_bytes = 4999',
+          r'file \d+ has more bytes than the limits allow: raise limits.file_bytes'))
 
 
 def files_that_do_not_fit_are_refused(program):

@@ -17,7 +17,7 @@ def a_name_is_shown_in_one_line(program):
                                 ('journal', begun(program, '--journal', f'{absent}/{name}'))):
                 said = f'{form}: {absent}/{shown}: cannot be written: no such file\n'
                 wrong.append(differs(found, (1, said), repr(name)))
-            said = f'journal: {absent}/{shown}: cannot be read: no such file\n'
+            said = f'journal: {absent}/{shown}: cannot be read: no such file; name a file that you may read\n'
             wrong.append(differs(program.ran('check-journal', f'{absent}/{name}'), (1, b'', said), repr(name)))
         return not any(wrong)
 

@@ -17,7 +17,7 @@ def built(name):
 
 
 @contextlib.contextmanager
-def odd_system(what):
-    """The environment in which a program meets a system that does this."""
+def odd_system(what, **further):
+    """The environment in which a program meets a system that does this; with further variables."""
     with built('odd_system') as library:
-        yield {**os.environ, 'LD_PRELOAD': library, 'ODD_SYSTEM': what}
+        yield {**os.environ, 'LD_PRELOAD': library, 'ODD_SYSTEM': what, **further}

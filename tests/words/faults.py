@@ -16,7 +16,9 @@ from tools import frame as frame_tool
 FOLDER = 'CREDENTIALS_DIRECTORY'
 BY_NTLM = ('replay', '--explain', '--login', 'ntlm', '--seed', '0' * 32)
 NOT_PRIVATE = (1, b'', b'accounts: refused\nfile: no rights for anyone but its owner, such as mode 600\n')
-CARRIAGE_RETURN = b'the password ends in a carriage return, which is taken as a part of it\n'
+CARRIAGE_RETURN = (b'the password ends in a carriage return, which is taken as a part of it; give it without where '
+                   b'it is not meant\n')
+READ, WRITE = 'name a file that you may read', 'name a file that you may write to'
 NAMED_IPC = ('the share is named IPC$: clients ask a share of that name for other things than files, and may not show '
              'these; give it another name')
 
@@ -107,15 +109,15 @@ def reasons_are_said_in_plain_words(program):
                  ((*BY_NTLM, '--accounts', odd), f'accounts: cannot be read\n{shown}: no such file\n'),
                  ((*BY_NTLM, '--accounts', absent), f'accounts: cannot be read\n{absent}: no such file\n'),
                  ((*BY_NTLM, '--accounts', below), f'accounts: cannot be read\n{below}: not a directory\n'),
-                 ((*serve, '--log', absent), 'log: cannot be written: no such file\n'),
-                 ((*serve, '--log', folder), 'log: cannot be written: is a directory\n'),
+                 ((*serve, '--log', absent), f'log: cannot be written: no such file: {absent}; {WRITE}\n'),
+                 ((*serve, '--log', folder), f'log: cannot be written: is a directory: {folder}; {WRITE}\n'),
                  ((*serve, '--from', absent), f'folder: {absent}/: cannot be read: no such file\n'),
                  ((*serve, '--from', file), f'folder: {file}/: cannot be read: not a directory\n'),
                  ((*serve, '--record', absent), f'record: {absent}: cannot be written: no such file\n'),
-                 ((*serve, '--record', file), f'record: {file}: cannot be written: it exists already\n'),
+                 ((*serve, '--record', file), f'record: {file}: cannot be written: it exists already; name a new file\n'),
                  ((*serve, '--journal', absent), f'journal: {absent}: cannot be written: no such file\n'),
-                 ((*serve, '--journal', below), f'journal: {below}: cannot be read: not a directory\n'),
-                 (('replay', '--recording', absent), f'journal: {absent}: cannot be read: no such file\n'))
+                 ((*serve, '--journal', below), f'journal: {below}: cannot be read: not a directory; {READ}\n'),
+                 (('replay', '--recording', absent), f'journal: {absent}: cannot be read: no such file; {READ}\n'))
         return not any([differs(ran(program, words), (1, b'', said.encode()), words) for words, said in cases])
 
 

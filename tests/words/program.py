@@ -314,8 +314,8 @@ def check_refuses_as_serve_does(program):
 def addresses_are_explained(program):
     in_use = socket.create_server(('127.0.0.1', 0))
     port = in_use.getsockname()[1]
-    cases = ((f'127.0.0.1:{port}', 'in use: another program listens there'),
-             ('192.0.2.1:0', 'not an address of this machine'),
+    cases = ((f'127.0.0.1:{port}', 'in use: another program listens there; end that one, or name another port'),
+             ('192.0.2.1:0', 'not an address of this machine; name one of its own, or 0.0.0.0 for all of them'),
              ('localhost:4450', 'not ADDR:PORT, an IP address with a port, such as 127.0.0.1:4450'),
              ('127.0.0.1', 'not ADDR:PORT, an IP address with a port, such as 127.0.0.1:4450'))
     with in_use:
@@ -331,6 +331,19 @@ def files_that_are_not_read_are_explained(program):
     if found != said:
         print(f'  {found}')
     return found == said
+
+
+def streams_that_fail_are_explained(program):
+    """Standard input that is a folder, and standard output that is full."""
+    folder = os.open('/', os.O_RDONLY)
+    try:
+        unread = ran(program, ('replay', '--explain'), given=folder)
+    finally:
+        os.close(folder)
+    with open('/dev/full', 'wb') as full:
+        unwritten = ran(program, ('check', '--explain'), stdout=full)[::2]
+    return (unread == (1, b'', b"input: failed\nstandard input can't be read to its end: give it from a file, by <\n")
+            and unwritten[0] == 1 and unwritten[1].startswith(b'output: failed\nstandard output takes no more: '))
 
 
 def on_a_terminal(program, words, given):
@@ -554,7 +567,8 @@ TESTS = (
     serve_takes_accounts_too, a_seed_that_is_given_is_said, words_of_ntlm_go_together, replays_by_ntlm_repeat,
     passwords_are_hashed, a_hash_that_is_not_written_failed, serve_explains_too,
     check_says_what_would_be_served, check_refuses_as_serve_does, examples_are_what_they_say,
-    addresses_are_explained, files_that_are_not_read_are_explained, a_terminal_is_told_more,
+    addresses_are_explained, files_that_are_not_read_are_explained, streams_that_fail_are_explained,
+    a_terminal_is_told_more,
     serve_says_that_nobody_can_log_in, serve_says_what_is_not_as_it_may_be_wanted, serve_says_what_the_machine_lacks,
     unreadable_lines_are_explained, bad_events_are_explained,
     endings_are_explained, refused_requests_are_explained, a_reason_is_behind_its_answer, fields_of_requests_are_shown, statuses_of_replies_are_shown,

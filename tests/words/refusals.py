@@ -130,8 +130,10 @@ BROKEN_ACCOUNTS = (
 )
 BY_NTLM = ("login by NTLM: of the configuration `guest`, `guest_readonly` and `signing` count; its users' tokens are not used, "
            'accounts are in the file of --accounts')
-NO_USER = 'no client can log in: the configuration has no user, and its `guest` is false'
-NO_ACCOUNT = "no client can log in: there is no account (--accounts FILE), and the configuration's `guest` is false"
+NO_USER = ('no client can log in: the configuration has no user, and its `guest` is false; add a [[user]], or set '
+           '`guest`')
+NO_ACCOUNT = ("no client can log in: there is no account (--accounts FILE), and the configuration's `guest` is false; "
+              '`smbshare account add` adds one')
 EVERYONE = "the configuration holds users' tokens, and everyone may write to its file (chmod o-w)"
 
 # Of a configuration that is served whether it has a user, what its `guest` is, and its file's mode; the accounts, or

@@ -18,6 +18,7 @@ ENDS_WITH = 'changes are '
 NAME_RULE = '1 to 80 characters from ! to ~, none of them one of " * / : < > ? \\ |'
 FOLDER_NAME = f"the share can't have the folder's name, but {NAME_RULE}; name it by --name NAME"
 NOT_A_SIZE = 'not a size: say a number of bytes above 0, or of KiB, MiB, GiB or TiB, such as 1073741824 or 10GiB'
+IN_USE = 'in use: another program listens there; end that one, or name another port'
 OPEN = ('others can reach it, and nobody is named: say --account NAME for each who may come in, --guests to let in '
         'everyone, or listen at 127.0.0.1')
 EACH = 'give one for each --account, in their order, each in a line of its own'
@@ -154,7 +155,8 @@ def passwords_that_others_may_read_are_said(program):
         with Shared(program, *words) as share:
             comes = share.comes_in('docs', 'ann', hash_of(program, 'Password\r')) is not None
         wanted = [f'passwords of {file}: others than its owner have a right to it (chmod 600)\n',
-                  'a password ends in a carriage return, which is taken as a part of it\n']
+                  'a password ends in a carriage return, which is taken as a part of it; give it without where '
+                  'it is not meant\n']
         return comes and not differs(share.before, wanted, 'before it listens')
 
 
@@ -304,7 +306,7 @@ def addresses_are_refused(program):
         with socket.create_server(('127.0.0.1', 0)) as taken:
             address = f'127.0.0.1:{taken.getsockname()[1]}'
             found = program.ran('share', at, '--listen', address, given=b'')
-        in_use = f'listen: failed\n{address}: in use: another program listens there\n'
+        in_use = f'listen: failed\n{address}: {IN_USE}\n'
         return not any([*wrong, differs(found, (1, b'', in_use), 'in use')])
 
 
@@ -388,7 +390,7 @@ def several_addresses_are_listened_at(program):
             share.communicate()
         with socket.create_server(('127.0.0.1', 0)) as taken:
             address = f'127.0.0.1:{taken.getsockname()[1]}'
-            said = f'listen: failed\n{address}: in use: another program listens there\n'
+            said = f'listen: failed\n{address}: {IN_USE}\n'
             for words in (('share', at), ('serve', '--explain', '--turns', '1')):
                 wrong.append(differs(program.ran(*words, *listen, '--listen', address, given=b''), (1, b'', said), words))
         many, said = FREE * 17, 'listen: too many addresses: give at most 16\n'

@@ -10,7 +10,7 @@ use thiserror::Error;
 /// Why a password is not taken.
 #[derive(Clone, Copy, Debug, PartialEq, Eq, Error)]
 pub enum PasswordFault {
-    #[error("cannot be read: {0}")]
+    #[error("cannot be read: {0}; standard input is to be one line, the password")]
     Unread(Reason),
     /// Nothing came.
     #[error("none is there: standard input is to be one line, the password")]
@@ -22,7 +22,7 @@ pub enum PasswordFault {
     SeveralLines,
     #[error("no text: it is to be in UTF-8")]
     NoText,
-    #[error("longer than 4096 bytes")]
+    #[error("longer than 4096 bytes: give a shorter one")]
     TooLong,
     #[error("no memory")]
     NoMemory,
@@ -34,7 +34,7 @@ pub enum AccountsFault {
     /// The file is not there, and the change makes none.
     #[error("no such file: `account add` makes it")]
     NoFile,
-    #[error("cannot be read: {0}")]
+    #[error("cannot be read: {0}; name a file that you may read")]
     Unread(Reason),
     /// Somebody besides its owner has a right to it.
     #[error("refused: others have rights to it, and must have none (chmod 600)")]
@@ -48,12 +48,12 @@ pub enum AccountsFault {
     /// The file that the new text is written to first is there already.
     #[error("not changed: {0} is there, of a change that was cut off or another program; look at it, and remove it")]
     Left(String),
-    #[error("cannot be made: {0}")]
+    #[error("cannot be made: {0}; name a file in a folder that you may write to")]
     Unmade(Reason),
-    #[error("not changed, since the new file cannot be written: {0}")]
+    #[error("not changed, since the new file cannot be written: {0}; mend that, and try again")]
     Unwritten(Reason),
     /// It has its new text; only that this is on the disk is not known.
-    #[error("changed, but maybe not yet on the disk: {0}")]
+    #[error("changed, but maybe not yet on the disk: {0}; `account list` shows what it has")]
     Unsettled(Reason),
     /// The name of an account that is to be added breaks this rule.
     #[error("not changed: {0}")]
@@ -65,7 +65,7 @@ pub enum AccountsFault {
     /// The tables are not where the lines say that they are, or their hash is not.
     #[error("not changed: each account is to be a table [[account]], with its `nt_hash` in a line; change it by hand")]
     Layout,
-    #[error("not changed: it would have more than 1048576 bytes")]
+    #[error("not changed: it would have more than 1048576 bytes; remove other accounts first")]
     Full,
     #[error("no memory")]
     NoMemory,

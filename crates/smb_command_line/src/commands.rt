@@ -5,6 +5,7 @@ use super::clients::{HOSTS, PER_ADDRESS};
 use super::options::{CommandRow, Needed, OptionRow, Takes, command_of};
 use super::share::SHARE;
 use clap::Command;
+use smb_journal::VERSION;
 use std::alloc::{AllocError, Global};
 
 /// The end of the program's help.
@@ -286,6 +287,24 @@ const FROM: OptionRow = OptionRow {
     help: "Begins a new share with the files and folders of FOLDER; not where the file of --journal exists",
 };
 
+/// What of a folder is left out.
+pub(crate) const SKIP: OptionRow = OptionRow {
+    name: "skip",
+    takes: Takes::Nothing,
+    needed: Needed::Never,
+    bars: &[],
+    help: "Leaves out what of FOLDER can't be in the share, in place of ending there; standard error names it",
+};
+
+/// What is whole of a damaged journal.
+const SALVAGE: OptionRow = OptionRow {
+    name: "salvage",
+    takes: Takes::Nothing,
+    needed: Needed::Never,
+    bars: &[],
+    help: "Takes of a damaged journal what is whole before and behind the damage, and says what may be missing",
+};
+
 /// A clock.
 const CLOCK: OptionRow = OptionRow {
     name: "clock",
@@ -390,6 +409,7 @@ const PERFORMING: &[CommandRow] = &[
             STATUS_ANYWHERE,
             STATUS_NAMES,
             FROM,
+            SKIP,
             CLOCK,
         ],
     },
@@ -418,7 +438,7 @@ const OF_FILES: &[CommandRow] = &[
         name: "extract",
         about: "Makes a new folder of the files that a journal or record on standard input leaves",
         examples: EXTRACT_HELP,
-        options: &[FOLDER],
+        options: &[FOLDER, SALVAGE],
     },
     CommandRow {
         name: "compact",
@@ -468,7 +488,7 @@ fn with_files<'a>(alloc: Global, command: Command<'a>) -> Result<Command<'a>, Al
 /// The command line.
 pub fn command<'a>(alloc: Global) -> Result<Command<'a>, AllocError> {
     let command = Command::new(alloc, "smbshare")
-        .version("0.1.0")
+        .version(VERSION)
         .about("A proved SMB2 file share. Without a command it replays standard input.")
         .after_help(HELP);
     let command = with_performing(alloc, command)?;

@@ -1,6 +1,7 @@
 //! The words of `share`.
 
 use super::clients::{HOSTS, PER_ADDRESS};
+use super::commands::SKIP;
 use super::options::{CommandRow, Needed, OptionRow, Takes};
 
 /// The end of its help.
@@ -101,5 +102,6 @@ pub(crate) const SHARE: CommandRow = CommandRow {
         HOSTS,
         PER_ADDRESS,
         JOURNAL,
+        SKIP,
     ],
 };

@@ -11,7 +11,7 @@ use smb_replay::{CommandFault, Detail, Given, ListenFault};
 use smb_sharing::SharingFault;
 use smb_tcp::MOST_LISTENERS;
 use std::alloc::{AllocError, Global};
-use std::io::Write;
+use std::io::{ErrorKind, Write};
 
 /// What ends a command.
 #[derive(Debug, Drop)]
@@ -33,12 +33,14 @@ pub enum Fault {
     Recording(RecordingFault),
     /// A journal can't be read, begun with or written.
     Journal(JournalFileFault),
-    /// The file of a log can't be opened or made, for this reason.
-    Log(Reason),
+    /// The file of a log can't be opened or made.
+    Log(LogFault),
     /// A line of the log could not be written, which had to be. Standard error has its line already.
     LogFailed,
     /// Files could not be taken out of a recording. Standard error has a line for each already.
     NotExtracted,
+    /// Files of a folder can't be in a share. Standard error has a line for each already.
+    NotPut,
     /// A journal is not whole. Standard output has its line already.
     NotWhole,
     /// A file of accounts is not changed or not listed.
@@ -70,6 +72,14 @@ pub struct RecordingFault {
     /// The file's name, as it was given.
     path: String,
     fault: JournalFault,
+}
+
+/// Why the file of a log can't be opened or made.
+#[derive(Debug, Drop)]
+pub struct LogFault {
+    /// The file's name, as it was given.
+    path: String,
+    reason: Reason,
 }
 
 /// Why a share can't be kept in a journal.
@@ -167,11 +177,38 @@ impl JournalFileFault {
     }
 }
 
+impl LogFault {
+    /// A fault with the name of its file.
+    pub(crate) fn of(alloc: Global, path: &str, reason: Reason) -> Fault {
+        match String::from_str(alloc, path) {
+            Ok(path) => Fault::Log(LogFault { path, reason }),
+            Err(error) => Fault::from(error),
+        }
+    }
+
+    /// Writes what is printed of it, in one line.
+    fn report<E: Write>(&self, errors: &mut E) {
+        let (path, reason) = (Shown(self.path.as_bytes()), self.reason);
+        let _ = writeln!(
+            errors,
+            "log: cannot be written: {reason}: {path}; name a file that you may write to"
+        );
+    }
+}
+
 impl RecordingFault {
+    /// What is to be done, where its reason does not say it.
+    fn remedy(&self) -> &'static str {
+        match self.fault {
+            JournalFault::Unwritten(Reason(ErrorKind::AlreadyExists)) => "; name a new file",
+            _ => "",
+        }
+    }
+
     /// Writes what is printed of it, in one line.
     fn report<E: Write>(&self, errors: &mut E) {
         let (word, path) = (self.form.word(), Shown(self.path.as_bytes()));
-        let _ = writeln!(errors, "{word}: {path}: {}", self.fault);
+        let _ = writeln!(errors, "{word}: {path}: {}{}", self.fault, self.remedy());
     }
 }
 
@@ -264,11 +301,11 @@ impl Fault {
                 fault.report(errors);
                 1
             }
-            Fault::Log(reason) => {
-                let _ = writeln!(errors, "log: cannot be written: {reason}");
+            Fault::Log(fault) => {
+                fault.report(errors);
                 1
             }
-            Fault::LogFailed | Fault::NotExtracted | Fault::NotWhole => 1,
+            Fault::LogFailed | Fault::NotExtracted | Fault::NotPut | Fault::NotWhole => 1,
             Fault::Accounts(fault) => {
                 fault.report(errors);
                 1

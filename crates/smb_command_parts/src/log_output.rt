@@ -1,6 +1,6 @@
 //! Where a log is written: the file of a name, or standard error.
 
-use crate::fault::Fault;
+use crate::fault::{Fault, LogFault};
 use crate::standard_error::{Severity, StandardError};
 use smb_reason::Reason;
 use std::fs::{File, Metadata, OpenOptions};
@@ -123,7 +123,7 @@ impl<'a> LogOutput<'a> {
                 file: Some(file),
                 errors: StandardError::new(rt, Severity::Error),
             }),
-            Err(error) => Err(Fault::Log(Reason(error.kind()))),
+            Err(error) => Err(LogFault::of(rt.alloc(), path, Reason(error.kind()))),
         }
     }
 }

@@ -14,7 +14,7 @@ const BUILT_IN_USER: &str =
 
 /// What is said where clients log in by tokens, and there is none.
 const NO_USER: &str =
-    "no client can log in: the configuration has no user, and its `guest` is false";
+    "no client can log in: the configuration has no user, and its `guest` is false; add a [[user]], or set `guest`";
 
 /// What is said of a configuration with users where clients log in by NTLM.
 const NO_TOKENS: &str =
@@ -22,11 +22,11 @@ const NO_TOKENS: &str =
 
 /// What is said where clients log in by NTLM, and no login is right.
 const NO_ACCOUNT: &str =
-    "no client can log in: there is no account (--accounts FILE), and the configuration's `guest` is false";
+    "no client can log in: there is no account (--accounts FILE), and the configuration's `guest` is false; `smbshare account add` adds one";
 
 /// What is said where the challenges of NTLM come from a seed that was given.
 const SEED_IS_GIVEN: &str =
-    "login by NTLM: the challenges come from --seed, so a login that was seen once can be played again";
+    "login by NTLM: the challenges come from --seed, so a login that was seen once can be played again; leave it out where it is no test";
 
 /// What is said where accounts have to sign what they send, and guests come in too.
 const GUESTS_DO_NOT_SIGN: &str =
@@ -92,7 +92,7 @@ fn say_wants(rt: &HostRuntime, capacity: u64, connections: u64) {
         && capacity > memory
     {
         let line = format_args!(
-            "capacity: {capacity} bytes, more than the {memory} of this machine's memory: clients are ended where it runs out"
+            "capacity: {capacity} bytes, more than the {memory} of this machine's memory: clients are ended where it runs out; a smaller capacity does not come to that"
         );
         say(rt, Severity::Warning, line);
     }
@@ -101,7 +101,7 @@ fn say_wants(rt: &HostRuntime, capacity: u64, connections: u64) {
         && wanted > descriptors
     {
         let line = format_args!(
-            "connections: {connections} clients want {wanted} descriptors, and the program may have {descriptors} (ulimit -n): the last clients are not let in"
+            "connections: {connections} clients want {wanted} descriptors, and the program may have {descriptors} (ulimit -n): the last clients are not let in; raise that, or lower limits.connections"
         );
         say(rt, Severity::Warning, line);
     }

@@ -13,7 +13,7 @@ const TYPED: &str = "password: what is typed is seen here; smbshare-account asks
 
 /// What is said of a password whose last character is one that nobody types.
 const CARRIAGE_RETURN: &str =
-    "password: it ends in a carriage return, which is taken as a part of it";
+    "password: it ends in a carriage return, which is taken as a part of it; give it without where it is not meant";
 
 /// The hash of the password on standard input.
 fn read_hash(rt: &HostRuntime) -> Result<[u8; 16], Fault> {

@@ -1,7 +1,7 @@
 //! The command `compact`: a journal of the files that another one or a recording leaves.
 
 use crate::replaying::{STANDARD_INPUT, check_input, say_left_out};
-use smb_command_parts::{Fault, random_number, random_seed};
+use smb_command_parts::{Fault, random_number};
 use smb_kept::KeptFault;
 use smb_replay::CommandFault;
 use std::io::BufWriter;
@@ -10,11 +10,11 @@ use std::io::BufWriter;
 /// error says where its end was cut.
 pub fn compact(rt: &HostRuntime) -> Result<(), Fault> {
     check_input(rt)?;
-    let (token, seed) = (random_seed()?, random_number()?);
+    let seed = random_number()?;
     let Ok(mut output) = BufWriter::new(rt.alloc(), rt.stdout()) else {
         return Err(Fault::Command(CommandFault::NoMemory));
     };
-    match smb_kept::compact(rt, STANDARD_INPUT, token, seed, &mut output) {
+    match smb_kept::compact(rt, STANDARD_INPUT, seed, &mut output) {
         Ok(compacted) => {
             say_left_out(rt, compacted.kind, compacted.left_out);
             Ok(())

@@ -3,18 +3,17 @@
 
 use crate::hearing::Hearing;
 use smb_command_line::{Login, NtlmWords, Texts};
-use smb_command_parts::{
-    Fault, LogWords, ntlm_of, random_seed, read_accounts, say_cut, say_cut_batch,
-};
+use smb_command_parts::{Fault, LogWords, ntlm_of, read_accounts, say_cut, say_cut_batch};
 use smb_config::Configuration;
 use smb_engine::{Answer, Authenticator, Event, HandleTable, NodeTree, Share, Tokens};
 use smb_journal::{Form, JournalFault, LimitedConfig, Mailbox, RecordedLogin};
 use smb_kept::{
-    Hears, KeptFault, Kind, nobody, perform_file, read_recording, recorded_login, share_of,
+    Hears, KeptFault, Kind, SalvageReport, nobody, perform_file, read_recording, recorded_login,
+    share_of,
 };
 use smb_ntlm::SigningMode;
 use smb_peers::{Acting, Ending, Observer, Responded};
-use smb_reason::Reason;
+use smb_reason::{Reason, Shown};
 use smb_refusals::LoginRefusal;
 use smb_replay::{CommandFault, ReplayWords, check_unsigned, replay_heard, write_answers};
 use smb_wire::limits::Limits;
@@ -281,17 +280,48 @@ pub fn say_left_out(rt: &HostRuntime, kind: Kind, left_out: u64) {
     }
 }
 
+/// Says on standard error what is not there of a journal that was salvaged into a folder.
+fn say_salvage(rt: &HostRuntime, folder: &str, salvage: &SalvageReport) {
+    let folder = folder.trim_end_matches('/');
+    for damage in salvage.damage.iter() {
+        let _ = eprintln!(rt;
+            "journal: standard input: bytes {} to {} are damaged",
+            damage.from, damage.to
+        );
+    }
+    for loss in salvage.losses.iter() {
+        let _ = eprintln!(rt;
+            "folder: {}/{}: {}",
+            Shown(folder.as_bytes()),
+            loss.path,
+            loss.missing
+        );
+    }
+    let _ = if salvage.damage.is_empty() {
+        eprintln!(rt; "journal: {}", salvage.fault)
+    } else {
+        eprintln!(rt; "journal: standard input: of what lay wholly in the damage nothing is known")
+    };
+}
+
 /// Makes a new folder of the files and folders that the journal or recording on standard input leaves. Standard error
-/// says where its end was cut, and has a line for each file or folder that was not taken out whole.
-pub fn extract(rt: &HostRuntime, folder: &str) -> Result<(), Fault> {
+/// says where its end was cut, and has a line for each file or folder that was not taken out whole. Of a journal that
+/// is damaged what is whole is salvaged, where that is asked for.
+pub fn extract(rt: &HostRuntime, folder: &str, salvages: bool) -> Result<(), Fault> {
     check_input(rt)?;
-    let token = random_seed()?;
-    let extracted = smb_kept::extract(rt, STANDARD_INPUT, folder, token)?;
+    let extracted = if salvages {
+        smb_kept::salvage(rt, STANDARD_INPUT, folder)?
+    } else {
+        smb_kept::extract(rt, STANDARD_INPUT, folder)?
+    };
     say_left_out(rt, extracted.kind, extracted.left_out);
+    if let Some(salvage) = &extracted.salvage {
+        say_salvage(rt, folder, salvage);
+    }
     for fault in extracted.refused.iter() {
         let _ = eprintln!(rt; "folder: {fault}");
     }
-    if extracted.refused.is_empty() {
+    if extracted.refused.is_empty() && extracted.salvage.is_none() {
         Ok(())
     } else {
         Err(Fault::NotExtracted)

@@ -43,6 +43,19 @@ pub enum FolderRule {
     Changed,
     #[error("it exists already: name a new folder")]
     Exists,
+    /// The list beside a folder, where a new one would come.
+    #[error("a list of attributes exists already: take it away, or name another folder")]
+    ListExists,
+    /// A file that has the name of a list beside a folder.
+    #[error("no list of attributes, though it has the name of one: give it another name")]
+    NoList,
+    #[error("a list of attributes of another version: take it away, or serve the folder with the program that made it")]
+    OtherList,
+    /// A line of a list, by its number.
+    #[error("line {0} is damaged: take a back-up of it, or take the line away")]
+    BadLine(Grouped),
+    #[error("has more lines than the share has room for files and folders: raise limits.entries, or take lines away")]
+    ListTooLong,
     /// The system does not let it be read, for this reason.
     #[error("cannot be read: {0}")]
     Unread(Reason),
@@ -110,21 +123,15 @@ impl From<ClientFault> for Trouble {
     }
 }
 
-impl FolderFault {
+impl Trouble {
     /// Whether nothing more can be done behind it: memory could not be had, or the share hears nothing more.
-    pub(crate) fn is_the_end(&self) -> bool {
+    pub(crate) fn is_the_end(self) -> bool {
         matches!(
             self,
-            FolderFault::NoMemory
-                | FolderFault::Refused {
-                    rule: FolderRule::NotAsked(_),
-                    ..
-                }
+            Trouble::NoMemory | Trouble::Rule(FolderRule::NotAsked(_) | FolderRule::Unanswered)
         )
     }
-}
 
-impl Trouble {
     /// What a refusal of the system to read is.
     pub(crate) fn unread(error: io::Error) -> Trouble {
         match error.kind() {

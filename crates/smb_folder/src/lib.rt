@@ -1,13 +1,17 @@
 //! Files between a folder of the system and a share.
 //!
-//! [`put_folder`] puts the files and folders of a folder into a share, and [`take_folder`] makes a new folder of those
-//! of a share. Both go by the requests of a [`Client`](smb_client::Client) over a [`Line`](smb_client::Line), so that
-//! every limit and rule of the share holds; the client has its session and its tree. Beside names and bytes the times
-//! of the last write and of the last access are kept, in units of 100 ns, and READONLY, which is a mode without a right
-//! to write.
+//! [`put_folder`] puts the files and folders of a folder into a share, by the requests of a
+//! [`Client`](smb_client::Client) over a [`Line`](smb_client::Line), which has its session and its tree; every limit
+//! and rule of the share holds for them. [`take_folder`] makes a new folder of the files of a
+//! [`Tree`](smb_tree::Tree), by the tree's own calls. Beside names and bytes the times of the last write and of the
+//! last access are kept, in units of 100 ns, and READONLY, which is a mode without a right to write.
 //!
-//! What cannot be moved is a [`FolderFault`], which names the path and the rule, and is the end: what was moved before
-//! stays. But [`take_folder`] goes on behind it, and tells of all that it could not take. None needs more memory than the names in the folders that are being walked, and one part of a file.
+//! What a folder does not keep, as HIDDEN and the time of a creation, is in a list beside it, a file of its name and
+//! `.attributes`: the module `notes` has its form. [`take_folder`] writes it, [`put_folder`] reads it.
+//!
+//! What cannot be moved is a [`FolderFault`], which names the path and the rule. The others are moved all the same,
+//! and all faults returned. None needs more memory than the names in the folders that are being walked, the list, and
+//! one part of a file.
 //!
 //! That the calls are safe and return is proved; what they make of files and requests is tested.
 #![tactic(auto)]
@@ -16,8 +20,9 @@ mod counts;
 mod fault;
 mod grouped;
 mod kept;
-mod listing;
 mod names;
+mod note;
+mod notes;
 mod progress;
 mod put;
 mod take;
@@ -25,6 +30,7 @@ mod talk;
 
 pub use counts::Counts;
 pub use fault::{FolderFault, FolderRule};
+pub use names::name_of;
 pub use progress::Progress;
-pub use put::{put_folder, put_folder_noted};
+pub use put::{Put, put_folder, put_folder_noted};
 pub use take::{Taken, take_folder};

@@ -2,11 +2,13 @@
 
 use super::counts::Counts;
 use super::fault::{FolderFault, FolderRule, Trouble};
-use super::kept::Kept;
-use super::names::{base_of, joined, names_in, system_path};
+use super::grouped::Grouped;
+use super::names::{Names, base_of, joined, names_in, system_path};
+use super::notes::Notes;
 use super::progress::Progress;
-use super::talk::{PART, Purpose, Talk};
-use smb_client::{Client, FileAttributes, FileId, Line};
+use super::talk::{PART, Talk};
+use smb_client::{Client, FileId, Line};
+use smb_tree::{Basic, Kind};
 use smb_wire::limits::Limits;
 use std::alloc::Global;
 use std::fs;
@@ -14,13 +16,16 @@ use std::fs::{Files, Metadata, OpenFile};
 use std::io::Read;
 use std::os::unix::fs::MetadataExt;
 
+/// How many faults are returned one by one at most.
+const MOST_FAULTS: usize = 1_000;
+
 /// What is to be done, by the path below the folder.
 #[derive(Drop)]
 enum Step {
     /// To put the file or folder there; its name may be no text.
     Put(Vec<u8>),
     /// To set the times and attributes of a folder, all of which is put.
-    Mark(String, Kept),
+    Mark(String, Basic),
 }
 
 impl Step {
@@ -33,6 +38,20 @@ impl Step {
     }
 }
 
+/// What was put into a share.
+#[derive(Drop)]
+pub struct Put {
+    /// What is there.
+    pub counts: Counts,
+    /// What is not there: a file, or a folder with all that is in it, in the order in which they were met. The first
+    /// thousand.
+    pub refused: Vec<FolderFault>,
+    /// How many more there are.
+    pub more: u64,
+    /// How many lines of the list beside the folder are of other files than the folder has.
+    pub others: u64,
+}
+
 /// A folder that is being put into a share.
 #[derive(Drop)]
 struct Putting<'a, 'l, 'c, R: Files, L: Line, P: Progress + Drop> {
@@ -40,13 +59,16 @@ struct Putting<'a, 'l, 'c, R: Files, L: Line, P: Progress + Drop> {
     alloc: Global,
     base: String,
     talk: Talk<'l, 'c, L>,
-    /// The most entries of the share.
-    most: usize,
+    limits: Limits,
+    /// What the list beside the folder says.
+    notes: Notes,
     /// What is left to do, the next step last.
     steps: Vec<Step>,
     /// The part of a file that was read last.
     part: Vec<u8>,
     counts: Counts,
+    refused: Vec<FolderFault>,
+    more: u64,
     progress: P,
 }
 
@@ -70,11 +92,16 @@ fn check_unchanged<F: OpenFile>(before: &Metadata, file: &F) -> Result<(), Troub
 }
 
 impl<R: Files, L: Line, P: Progress + Drop> Putting<'_, '_, '_, R, L, P> {
-    /// Has what is in a folder put next, in order of the names.
-    fn enter(&mut self, relative: &str) -> Result<(), Trouble> {
+    /// The names of what is in a folder.
+    fn names(&self, relative: &str) -> Result<Names, Trouble> {
         let path = system_path(self.alloc, &self.base, relative)?;
-        let names = names_in(self.rt, self.alloc, self.most, &path)?;
-        for name in names.iter().rev() {
+        names_in(self.rt, self.alloc, self.limits.entries, &path)
+    }
+
+    /// Has what is in a folder put next, in order of the names.
+    fn enter(&mut self, relative: &str, found: &Names) -> Result<(), Trouble> {
+        self.more = self.more.saturating_add(found.more);
+        for name in found.names.iter().rev() {
             let child = joined(self.alloc, relative.as_bytes(), name)?;
             self.steps.push(Step::Put(child))?;
         }
@@ -82,13 +109,14 @@ impl<R: Files, L: Line, P: Progress + Drop> Putting<'_, '_, '_, R, L, P> {
     }
 
     /// Puts a folder, and has what is in it put next.
-    fn put_folder(&mut self, relative: &str, kept: Kept) -> Result<(), Trouble> {
-        let file_id = self.talk.open(relative, Purpose::NewFolder)?;
-        self.talk.close(file_id)?;
+    fn put_folder(&mut self, relative: &str, metadata: &Metadata) -> Result<(), Trouble> {
+        let found = self.names(relative)?;
+        self.talk.make_folder(relative)?;
         self.counts.add_folder();
+        let basic = self.notes.basic_of(relative, Kind::Folder, metadata);
         let name = String::from_str(self.alloc, relative)?;
-        self.steps.push(Step::Mark(name, kept))?;
-        self.enter(relative)
+        self.steps.push(Step::Mark(name, basic))?;
+        self.enter(relative, &found)
     }
 
     /// Reads a part of a file behind the one before it, and tells how many bytes it has: none at the end.
@@ -120,16 +148,35 @@ impl<R: Files, L: Line, P: Progress + Drop> Putting<'_, '_, '_, R, L, P> {
         }
     }
 
-    /// Puts a file.
+    /// Gives a file of the share all that a file of the system has.
+    fn fill(
+        &mut self,
+        file_id: FileId,
+        relative: &str,
+        file: &mut R::File,
+        before: &Metadata,
+    ) -> Result<(), Trouble> {
+        self.copy(file, file_id, before.len())?;
+        check_unchanged(before, file)?;
+        let basic = self.notes.basic_of(relative, Kind::File, before);
+        self.talk.finish_file(file_id, basic)
+    }
+
+    /// Puts a file. One that can't be put whole is not in the share.
     fn put_file(&mut self, relative: &str, path: &str, before: &Metadata) -> Result<(), Trouble> {
+        if before.len() > self.limits.file_bytes {
+            let most = Grouped(self.limits.file_bytes);
+            return Err(Trouble::Rule(FolderRule::TooLong(most)));
+        }
         let mut file = fs::open(self.rt, path).map_err(Trouble::unread)?;
         check_unchanged(before, &file)?;
-        let file_id = self.talk.open(relative, Purpose::NewFile)?;
-        self.copy(&mut file, file_id, before.len())?;
-        check_unchanged(before, &file)?;
-        self.talk
-            .mark(file_id, &Kept::of(before, FileAttributes::ARCHIVE))?;
-        self.talk.close(file_id)?;
+        let file_id = self.talk.make_file(relative)?;
+        if let Err(trouble) = self.fill(file_id, relative, &mut file, before) {
+            if !trouble.is_the_end() {
+                self.talk.discard_file(file_id)?;
+            }
+            return Err(trouble);
+        }
         self.counts.add_file(before.len());
         Ok(())
     }
@@ -142,7 +189,7 @@ impl<R: Files, L: Line, P: Progress + Drop> Putting<'_, '_, '_, R, L, P> {
         let path = system_path(self.alloc, &self.base, relative)?;
         let metadata = fs::symlink_metadata(self.rt, &path).map_err(Trouble::unread)?;
         if metadata.is_dir() {
-            self.put_folder(relative, Kept::of(&metadata, FileAttributes(0)))
+            self.put_folder(relative, &metadata)
         } else if metadata.is_file() {
             self.put_file(relative, &path, &metadata)
         } else if metadata.is_symlink() {
@@ -152,13 +199,6 @@ impl<R: Files, L: Line, P: Progress + Drop> Putting<'_, '_, '_, R, L, P> {
         }
     }
 
-    /// Sets the times and attributes of a folder.
-    fn mark(&mut self, relative: &str, kept: &Kept) -> Result<(), Trouble> {
-        let file_id = self.talk.open(relative, Purpose::MarkFolder)?;
-        self.talk.mark(file_id, kept)?;
-        self.talk.close(file_id)
-    }
-
     /// Does a step.
     fn perform(&mut self, step: &Step) -> Result<(), Trouble> {
         match step {
@@ -166,13 +206,35 @@ impl<R: Files, L: Line, P: Progress + Drop> Putting<'_, '_, '_, R, L, P> {
                 Ok(relative) => self.put(relative),
                 Err(_) => Err(Trouble::Rule(FolderRule::NotUnicode)),
             },
-            Step::Mark(relative, kept) => self.mark(relative, kept),
+            Step::Mark(relative, basic) => self.talk.mark_folder(relative, *basic),
         }
+    }
+
+    /// Notes that a step could not be done, or ends all of them where nothing more can be done.
+    fn refuse(&mut self, trouble: Trouble, step: &Step) -> Result<(), FolderFault> {
+        if !trouble.is_the_end() && self.refused.len() >= MOST_FAULTS {
+            self.more = self.more.saturating_add(1);
+            return Ok(());
+        }
+        let fault = trouble.at(self.alloc, &self.base, step.relative());
+        if trouble.is_the_end() {
+            return Err(fault);
+        }
+        match self.refused.push(fault) {
+            Ok(()) => Ok(()),
+            Err(_) => Err(FolderFault::NoMemory),
+        }
+    }
+
+    /// Has all that is in the folder put next.
+    fn begin(&mut self) -> Result<(), Trouble> {
+        let found = self.names("")?;
+        self.enter("", &found)
     }
 
     /// Does all steps, from the first folder on.
     fn run(&mut self) -> Result<(), FolderFault> {
-        if let Err(trouble) = self.enter("") {
+        if let Err(trouble) = self.begin() {
             return Err(trouble.at(self.alloc, &self.base, b""));
         }
         for _ in 0..u64::MAX {
@@ -180,7 +242,7 @@ impl<R: Files, L: Line, P: Progress + Drop> Putting<'_, '_, '_, R, L, P> {
                 break;
             };
             if let Err(trouble) = self.perform(&step) {
-                return Err(trouble.at(self.alloc, &self.base, step.relative()));
+                self.refuse(trouble, &step)?;
             }
             self.progress.note(self.counts);
         }
@@ -195,17 +257,20 @@ impl<R: Files, L: Line, P: Progress + Drop> Putting<'_, '_, '_, R, L, P> {
 /// folder CREATE and CLOSE; of a file CREATE, WRITEs of at most 61,440 bytes, SET_INFO and CLOSE; and once all of a
 /// folder is put CREATE, SET_INFO and CLOSE for its times. The times are those of the file, in units of 100 ns, and
 /// that of the last write is taken for creation and change too; one before 1970 is put as 1970. What its owner may not
-/// write is READONLY. No link is followed, unless the folder itself is one.
+/// write is READONLY. What the list beside the folder says of a file that has its size and its time of the last write
+/// is taken from there. No link is followed, unless the folder itself is one.
 ///
-/// The share is under these limits. The first thing that cannot be put ends it with a [`FolderFault`]: what was put
-/// before is in the share then, and a file may be there in part, and open until the client's connection ends.
+/// The share is under these limits. What cannot be put is a fault of what was [`Put`], and the others are put all the
+/// same; of a file that can't be put whole nothing is in the share. Of a folder of more names than the share has room
+/// for files and folders the system says which ones are tried. Where the folder or its list cannot be read, memory runs
+/// out or the share hears nothing more a [`FolderFault`] ends it, and what was put before is in the share.
 pub fn put_folder<R: Files + AllocGlobal, L: Line>(
     rt: &R,
     limits: Limits,
     folder: &str,
     line: &mut L,
     client: &mut Client,
-) -> Result<Counts, FolderFault> {
+) -> Result<Put, FolderFault> {
     put_folder_noted(rt, limits, folder, line, client, ())
 }
 
@@ -217,19 +282,27 @@ pub fn put_folder_noted<R: Files + AllocGlobal, L: Line, P: Progress + Drop>(
     line: &mut L,
     client: &mut Client,
     progress: P,
-) -> Result<Counts, FolderFault> {
+) -> Result<Put, FolderFault> {
     let alloc = rt.alloc();
     let mut putting = Putting {
         rt,
         alloc,
         base: base_of(alloc, folder)?,
         talk: Talk::new(alloc, limits, line, client),
-        most: limits.entries,
+        limits,
+        notes: Notes::beside(rt, alloc, folder, limits.entries)?,
         steps: Vec::new(alloc),
         part: Vec::new(alloc),
         counts: Counts::default(),
+        refused: Vec::new(alloc),
+        more: 0,
         progress,
     };
     putting.run()?;
-    Ok(putting.counts)
+    Ok(Put {
+        counts: putting.counts,
+        refused: putting.refused,
+        more: putting.more,
+        others: putting.notes.left(),
+    })
 }

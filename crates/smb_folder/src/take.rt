@@ -1,25 +1,30 @@
-//! The files of a share into a new folder of the system.
+//! The files of a tree into a new folder of the system.
 
 use super::counts::Counts;
 use super::fault::{FolderFault, FolderRule, Trouble};
-use super::kept::Kept;
-use super::listing::Listed;
-use super::names::{base_of, system_path};
-use super::talk::{Purpose, Talk};
-use smb_client::{Client, FileId, Line};
-use smb_wire::limits::Limits;
+use super::kept::{is_read_only, times_of};
+use super::names::{base_of, child_of, name_of, system_path};
+use super::note::Note;
+use super::notes::{check_no_list, write_list};
+use smb_tree::{Basic, EntryNo, EntryView, Kind, Tree};
 use std::alloc::{AllocError, Global};
 use std::fs;
 use std::fs::{Files, OpenFile, OpenOptions};
 use std::io::Write;
 
+/// The number of the root.
+const ROOT: EntryNo = 1;
+
+/// How many bytes of a file are read at once at most.
+const PIECE: u64 = 1_048_576;
+
 /// What is to be done, by the path below the folder.
 #[derive(Drop)]
 enum Step {
-    /// To take the file or folder that is listed there.
-    Take(String, Listed),
+    /// To take the file or folder of a number.
+    Take(String, EntryNo),
     /// To set the times and rights of a folder, all of which is taken.
-    Mark(String, Kept),
+    Mark(String, Basic),
 }
 
 impl Step {
@@ -31,32 +36,36 @@ impl Step {
     }
 }
 
-/// A share that is being taken into a folder.
+/// A tree that is being taken into a folder.
 #[derive(Drop)]
-struct Taking<'a, 'l, 'c, R: Files, L: Line> {
+struct Taking<'a, R: Files, T: Tree> {
     rt: &'a R,
     alloc: Global,
     base: String,
-    talk: Talk<'l, 'c, L>,
+    tree: &'a T,
     /// What is left to do, the next step last.
     steps: Vec<Step>,
+    /// The part of a file that was read last.
+    piece: Vec<u8>,
+    /// The list of what the folder does not keep, as far as it has come.
+    list: String,
     counts: Counts,
     refused: Vec<FolderFault>,
 }
 
-/// What was taken of a share.
+/// What was taken of a tree.
 #[derive(Drop)]
 pub struct Taken {
     /// What was taken whole.
     pub counts: Counts,
-    /// What was not taken, or not whole: a file, or a folder with all that is in it. In the order of the share.
+    /// What was not taken, or not whole: a file, or a folder with all that is in it. In the order of the tree.
     pub refused: Vec<FolderFault>,
 }
 
 /// Sets the times of a file or a folder, and then takes all rights to write where it is READONLY.
-fn mark<F: OpenFile>(file: &F, kept: &Kept) -> Result<(), Trouble> {
-    file.set_times(kept.times()).map_err(Trouble::unwritten)?;
-    if kept.is_read_only() {
+fn mark<F: OpenFile>(file: &F, basic: Basic) -> Result<(), Trouble> {
+    file.set_times(times_of(basic)).map_err(Trouble::unwritten)?;
+    if is_read_only(basic) {
         let mut permissions = file.metadata().map_err(Trouble::unwritten)?.permissions();
         permissions.set_readonly(true);
         file.set_permissions(permissions)
@@ -66,11 +75,12 @@ fn mark<F: OpenFile>(file: &F, kept: &Kept) -> Result<(), Trouble> {
 }
 
 /// Refuses an entry whose name is no name of a file.
-fn check_name(entry: &Listed) -> Result<(), Trouble> {
-    if !entry.is_unicode {
+fn check_name(alloc: Global, view: &EntryView<'_>) -> Result<(), Trouble> {
+    let (name, is_unicode) = name_of(alloc, view.spelling)?;
+    if !is_unicode {
         return Err(Trouble::Rule(FolderRule::NotUnicode));
     }
-    match entry.name.as_str() {
+    match name.as_str() {
         "" | "." | ".." => Err(Trouble::Rule(FolderRule::NotForTheFolder)),
         name if name.contains('/') || name.contains('\0') => {
             Err(Trouble::Rule(FolderRule::NotForTheFolder))
@@ -79,18 +89,29 @@ fn check_name(entry: &Listed) -> Result<(), Trouble> {
     }
 }
 
-/// The path of a name in a folder that is at a path.
-fn child_of(alloc: Global, relative: &str, name: &str) -> Result<String, AllocError> {
-    let mut path = String::from_str(alloc, relative)?;
-    if !path.is_empty() {
-        path.push('/')?;
+/// The numbers of what is in a folder of a tree, in its order.
+fn children_of<T: Tree>(
+    alloc: Global,
+    tree: &T,
+    number: EntryNo,
+) -> Result<Vec<EntryNo>, AllocError> {
+    let mut children = Vec::new(alloc);
+    let mut last = None;
+    for _ in 0..u64::MAX {
+        let Some(child) = tree.child_after(number, last.as_ref()) else {
+            break;
+        };
+        let Some(name) = tree.name(child) else {
+            break;
+        };
+        children.push(child)?;
+        last = Some(name);
     }
-    path.push_str(name)?;
-    Ok(path)
+    Ok(children)
 }
 
-impl<R: Files, L: Line> Taking<'_, '_, '_, R, L> {
-    /// The path of the system at which what is at a path of the share comes.
+impl<R: Files, T: Tree> Taking<'_, R, T> {
+    /// The path of the system at which what is at a path of the tree comes.
     fn path(&self, relative: &str) -> Result<String, AllocError> {
         system_path(self.alloc, &self.base, relative)
     }
@@ -101,45 +122,74 @@ impl<R: Files, L: Line> Taking<'_, '_, '_, R, L> {
         fs::create_dir(self.rt, &path).map_err(Trouble::unwritten)
     }
 
+    /// Sets times and rights, and notes what the system keeps otherwise.
+    fn mark<F: OpenFile>(
+        &mut self,
+        relative: &str,
+        kind: Kind,
+        basic: Basic,
+        file: &F,
+    ) -> Result<(), Trouble> {
+        mark(file, basic)?;
+        let metadata = file.metadata().map_err(Trouble::unwritten)?;
+        if let Some(note) = Note::of(kind, basic, &metadata) {
+            note.write(&mut self.list, relative)?;
+        }
+        Ok(())
+    }
+
     /// Has what is in a folder taken next.
-    fn enter(&mut self, relative: &str) -> Result<(), Trouble> {
-        let listed = self.talk.list(relative)?;
-        for entry in listed.into_iter().rev() {
-            let child = child_of(self.alloc, relative, &entry.name)?;
-            self.steps.push(Step::Take(child, entry))?;
+    fn enter(&mut self, relative: &str, number: EntryNo) -> Result<(), AllocError> {
+        let children = children_of(self.alloc, self.tree, number)?;
+        for child in children.iter().rev() {
+            if let Some(view) = self.tree.entry(*child) {
+                let (name, _) = name_of(self.alloc, view.spelling)?;
+                let path = child_of(self.alloc, relative, &name)?;
+                self.steps.push(Step::Take(path, *child))?;
+            }
         }
         Ok(())
     }
 
     /// Takes a folder.
-    fn take_folder(&mut self, relative: &str, kept: Kept) -> Result<(), Trouble> {
+    fn take_folder(
+        &mut self,
+        relative: &str,
+        number: EntryNo,
+        basic: Basic,
+    ) -> Result<(), Trouble> {
         self.make_folder(relative)?;
         let name = String::from_str(self.alloc, relative)?;
-        self.steps.push(Step::Mark(name, kept))?;
-        self.enter(relative)?;
+        self.steps.push(Step::Mark(name, basic))?;
+        self.enter(relative, number)?;
         self.counts.add_folder();
         Ok(())
     }
 
-    /// Copies the bytes of a file of the share, and tells how many there were.
-    fn copy(&mut self, file_id: FileId, file: &mut R::File) -> Result<u64, Trouble> {
-        let mut offset = 0u64;
-        for _ in 0..u64::MAX {
-            let Some(part) = self.talk.read(file_id, offset)? else {
-                break;
-            };
-            file.write_all(part).map_err(Trouble::unwritten)?;
-            offset = offset.saturating_add(part.len() as u64);
+    /// Copies the bytes of a file of the tree, which has this size.
+    fn copy(&mut self, number: EntryNo, size: u64, file: &mut R::File) -> Result<(), Trouble> {
+        for i in 0..size.div_ceil(PIECE) {
+            self.piece.clear();
+            let offset = i.saturating_mul(PIECE);
+            if self
+                .tree
+                .read(number, offset, PIECE, &mut self.piece)
+                .is_err()
+            {
+                return Err(Trouble::NoMemory);
+            }
+            file.write_all(&self.piece).map_err(Trouble::unwritten)?;
         }
-        Ok(offset)
+        Ok(())
     }
 
-    /// Makes a file of what is open in the share.
-    fn write_file(
+    /// Takes a file of this size.
+    fn take_file(
         &mut self,
         relative: &str,
-        file_id: FileId,
-        entry: &Listed,
+        number: EntryNo,
+        size: u64,
+        basic: Basic,
     ) -> Result<(), Trouble> {
         let path = self.path(relative)?;
         let mut file = OpenOptions::new()
@@ -147,61 +197,77 @@ impl<R: Files, L: Line> Taking<'_, '_, '_, R, L> {
             .create_new(true)
             .open(self.rt, &path)
             .map_err(Trouble::unwritten)?;
-        let count = self.copy(file_id, &mut file)?;
-        if count != entry.size {
-            return Err(Trouble::Rule(FolderRule::Changed));
-        }
-        mark(&file, &entry.kept)
-    }
-
-    /// Takes a file. Whatever comes of it, it is open in the share no more.
-    fn take_file(&mut self, relative: &str, entry: &Listed) -> Result<(), Trouble> {
-        let file_id = self.talk.open(relative, Purpose::ReadFile)?;
-        let written = self.write_file(relative, file_id, entry);
-        self.talk.close(file_id)?;
-        written?;
-        self.counts.add_file(entry.size);
+        self.copy(number, size, &mut file)?;
+        self.mark(relative, Kind::File, basic, &file)?;
+        self.counts.add_file(size);
         Ok(())
     }
 
+    /// Takes the file or the folder of a number.
+    fn take(&mut self, relative: &str, number: EntryNo) -> Result<(), Trouble> {
+        let Some(view) = self.tree.entry(number) else {
+            return Ok(());
+        };
+        let EntryView {
+            kind,
+            basic,
+            size,
+            ..
+        } = view;
+        check_name(self.alloc, &view)?;
+        if kind.is_folder() {
+            self.take_folder(relative, number, basic)
+        } else {
+            self.take_file(relative, number, size, basic)
+        }
+    }
+
     /// Sets the times and rights of a folder.
-    fn mark_folder(&mut self, relative: &str, kept: &Kept) -> Result<(), Trouble> {
+    fn mark_folder(&mut self, relative: &str, basic: Basic) -> Result<(), Trouble> {
         let path = self.path(relative)?;
         let folder = fs::open(self.rt, &path).map_err(Trouble::unwritten)?;
-        mark(&folder, kept)
+        self.mark(relative, Kind::Folder, basic, &folder)
     }
 
     /// Does a step.
     fn perform(&mut self, step: &Step) -> Result<(), Trouble> {
         match step {
-            Step::Take(relative, entry) => {
-                check_name(entry)?;
-                if entry.is_folder {
-                    self.take_folder(relative, entry.kept)
-                } else {
-                    self.take_file(relative, entry)
-                }
-            }
-            Step::Mark(relative, kept) => self.mark_folder(relative, kept),
+            Step::Take(relative, number) => self.take(relative, *number),
+            Step::Mark(relative, basic) => self.mark_folder(relative, *basic),
         }
     }
 
-    /// Notes that a step could not be done, or ends all of them where nothing more can be done.
+    /// Notes that a step could not be done, or ends all of them where memory ran out.
     fn refuse(&mut self, trouble: Trouble, step: &Step) -> Result<(), FolderFault> {
         let fault = trouble.at(self.alloc, &self.base, step.relative().as_bytes());
-        if fault.is_the_end() {
+        if trouble.is_the_end() {
             return Err(fault);
         }
+        self.push_refused(fault)
+    }
+
+    /// Notes a fault.
+    fn push_refused(&mut self, fault: FolderFault) -> Result<(), FolderFault> {
         match self.refused.push(fault) {
             Ok(()) => Ok(()),
             Err(_) => Err(FolderFault::NoMemory),
         }
     }
 
-    /// Makes the new folder, and has all of the share taken next.
+    /// Writes the list beside the folder.
+    fn finish(&mut self, folder: &str) -> Result<(), FolderFault> {
+        match write_list(self.rt, self.alloc, folder, &self.list) {
+            Err(FolderFault::NoMemory) => Err(FolderFault::NoMemory),
+            Err(fault) => self.push_refused(fault),
+            Ok(()) => Ok(()),
+        }
+    }
+
+    /// Makes the new folder, and has all of the tree taken next.
     fn begin(&mut self) -> Result<(), Trouble> {
         self.make_folder("")?;
-        self.enter("")
+        self.enter("", ROOT)?;
+        Ok(())
     }
 
     /// Does all steps, from the new folder on.
@@ -221,36 +287,38 @@ impl<R: Files, L: Line> Taking<'_, '_, '_, R, L> {
     }
 }
 
-/// Takes the files and folders of a share into a new folder of the system, and tells what was taken. The client has its
-/// session and its tree, and may read.
+/// Takes the files and folders of a tree into a new folder of the system, and tells what was taken.
 ///
 /// A folder that exists is a fault, and so is any file that exists where one is made: nothing is written over. Files
-/// and folders get the times of the last write and the last access that they have in the share, in units of 100 ns, one
+/// and folders get the times of the last write and the last access that they have in the tree, in units of 100 ns, one
 /// before 1970 as 1970, and where they are READONLY nobody has a right to write. The new folder keeps the times of its
-/// making.
+/// making. What the system does not keep, HIDDEN, SYSTEM, ARCHIVE and the times of the creation and the change, is in a
+/// list beside the folder, where it is other than that of a file that is put into a share. It has the folder's name and
+/// `.attributes`, and one that exists is a fault before anything is made.
 ///
 /// A file or folder that cannot be taken is a fault of what was [`Taken`], and the others are taken all the same: of a
-/// file there may be a part in the folder then, and of a folder nothing. Where the new folder cannot be made, memory
-/// runs out, or the share hears nothing more, a [`FolderFault`] ends it, and what was taken before is in the folder.
-/// The share is not changed. What others have open there without sharing it to be read cannot be taken, so their
-/// connections are ended first.
-pub fn take_folder<R: Files + AllocGlobal, L: Line>(
+/// file there may be a part in the folder then, and of a folder nothing. Where the new folder cannot be made or memory
+/// runs out a [`FolderFault`] ends it, and what was taken before is in the folder.
+pub fn take_folder<R: Files + AllocGlobal, T: Tree>(
     rt: &R,
     folder: &str,
-    line: &mut L,
-    client: &mut Client,
+    tree: &T,
 ) -> Result<Taken, FolderFault> {
     let alloc = rt.alloc();
+    check_no_list(rt, alloc, folder)?;
     let mut taking = Taking {
         rt,
         alloc,
         base: base_of(alloc, folder)?,
-        talk: Talk::new(alloc, Limits::profile(), line, client),
+        tree,
         steps: Vec::new(alloc),
+        piece: Vec::new(alloc),
+        list: String::new(alloc),
         counts: Counts::default(),
         refused: Vec::new(alloc),
     };
     taking.run()?;
+    taking.finish(folder)?;
     Ok(Taken {
         counts: taking.counts,
         refused: taking.refused,

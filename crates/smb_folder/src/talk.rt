@@ -2,44 +2,38 @@
 
 use super::fault::{FolderRule, Trouble};
 use super::grouped::Grouped;
-use super::kept::Kept;
-use super::listing::{Listed, add_listed};
 use super::names::share_path;
 use smb_client::{
     Access, AdditionalInformation, Client, CreateDisposition, CreateOptions, CreateRequest,
     FileAttributes, FileId, ImpersonationLevel, InfoType, InformationClass, Line, OplockLevel,
-    QueryDirectoryFlags, QueryDirectoryRequest, QueryInfoFlags, QueryInfoRequest, Replies, Reply,
-    Request, SecurityFlags, SetInfoRequest, ShareAccess, SmbCreateFlags, Status, Units, units_of,
+    Replies, Reply, Request, SecurityFlags, SetInfoRequest, ShareAccess, SmbCreateFlags, Status,
+    Units, units_of,
 };
+use smb_tree::{Basic, Kind};
 use smb_wire::NtStatus;
 use smb_wire::limits::{Limits, MOST_COMPONENTS};
-use std::alloc::Global;
+use std::alloc::{AllocError, Global};
 
-/// How many bytes one request writes, reads or lists at most: with its head it stays below 65,536 bytes.
+/// How many bytes one request writes at most: with its head it stays below 65,536 bytes.
 pub(crate) const PART: u32 = 61_440;
-
-/// FileFullDirectoryInformation ([MS-FSCC] 2.4.14).
-const FULL_DIRECTORY_INFORMATION: InformationClass = InformationClass(2);
 
 /// FileBasicInformation ([MS-FSCC] 2.4.7).
 const BASIC_INFORMATION: InformationClass = InformationClass(4);
 
-/// How many bytes that has.
-const BASIC_LENGTH: u32 = 40;
+/// FileDispositionInformation ([MS-FSCC] 2.4.11).
+const DISPOSITION_INFORMATION: InformationClass = InformationClass(13);
 
 /// What is between the names of a path.
 const SEPARATOR: u16 = 0x5C;
 
 /// What an open is for.
 #[derive(Clone, Copy, PartialEq, Eq)]
-pub(crate) enum Purpose {
+enum Purpose {
     /// To make a new file, and to write it.
     NewFile,
     NewFolder,
     /// To set times and attributes of a folder.
     MarkFolder,
-    ReadFile,
-    ListFolder,
 }
 
 impl Purpose {
@@ -47,25 +41,20 @@ impl Purpose {
         match self {
             Purpose::NewFile | Purpose::NewFolder => Access::FILE_ALL_ACCESS,
             Purpose::MarkFolder => Access::WRITE_ATTRIBUTES,
-            Purpose::ReadFile | Purpose::ListFolder => Access::FILE_GENERIC_READ,
         }
     }
 
     fn disposition(self) -> CreateDisposition {
         match self {
             Purpose::NewFile | Purpose::NewFolder => CreateDisposition::Create,
-            Purpose::MarkFolder | Purpose::ReadFile | Purpose::ListFolder => {
-                CreateDisposition::Open
-            }
+            Purpose::MarkFolder => CreateDisposition::Open,
         }
     }
 
     fn options(self) -> CreateOptions {
         match self {
-            Purpose::NewFile | Purpose::ReadFile => CreateOptions::NON_DIRECTORY_FILE,
-            Purpose::NewFolder | Purpose::MarkFolder | Purpose::ListFolder => {
-                CreateOptions::DIRECTORY_FILE
-            }
+            Purpose::NewFile => CreateOptions::NON_DIRECTORY_FILE,
+            Purpose::NewFolder | Purpose::MarkFolder => CreateOptions::DIRECTORY_FILE,
         }
     }
 }
@@ -134,16 +123,28 @@ fn accept(reply: &Reply<'_>) -> Result<(), Trouble> {
     }
 }
 
-/// The bytes that a reply brings; None where its status is that of an end.
-fn bytes_until<'a>(reply: &Reply<'a>, end: NtStatus) -> Result<Option<&'a [u8]>, Trouble> {
-    if reply.status().0 == end.code() {
-        return Ok(None);
+/// FileBasicInformation ([MS-FSCC] 2.4.7) that sets all of an entry of this kind.
+fn basic_information(alloc: Global, kind: Kind, basic: Basic) -> Result<Vec<u8>, AllocError> {
+    let Basic {
+        creation_time,
+        last_access_time,
+        last_write_time,
+        change_time,
+        attributes,
+    } = basic;
+    let mut bytes = Vec::new(alloc);
+    for time in [
+        creation_time,
+        last_access_time,
+        last_write_time,
+        change_time,
+    ] {
+        bytes.extend_from_slice(&time.to_le_bytes())?;
     }
-    accept(reply)?;
-    match reply.data() {
-        Some(bytes) => Ok(Some(bytes)),
-        None => Err(Trouble::Rule(FolderRule::Unanswered)),
-    }
+    let shown = kind.shown_attributes(attributes);
+    bytes.extend_from_slice(&shown.0.to_le_bytes())?;
+    bytes.extend_from_slice(&[0; 4])?;
+    Ok(bytes)
 }
 
 /// A client that has its tree, and the line that carries what it asks. Each request is answered before the next.
@@ -184,7 +185,7 @@ impl<'l, 'c, L: Line> Talk<'l, 'c, L> {
     }
 
     /// Opens what is at a path below the share's root, for a purpose.
-    pub(crate) fn open(&mut self, relative: &str, purpose: Purpose) -> Result<FileId, Trouble> {
+    fn open(&mut self, relative: &str, purpose: Purpose) -> Result<FileId, Trouble> {
         let path = share_path(self.alloc, relative)?;
         let path = units_of(self.alloc, &path)?;
         let limits = self.limits;
@@ -200,7 +201,56 @@ impl<'l, 'c, L: Line> Talk<'l, 'c, L> {
         }
     }
 
-    /// Writes a part of a file, at an offset in bytes.
+    /// Closes what is open.
+    fn close(&mut self, file_id: FileId) -> Result<(), Trouble> {
+        self.client.close(file_id)?;
+        accept(&self.reply()?)
+    }
+
+    /// Sets what an information class has of what is open.
+    fn set_info(
+        &mut self,
+        file_id: FileId,
+        class: InformationClass,
+        information: &[u8],
+    ) -> Result<(), Trouble> {
+        self.client.ask(&Request::SetInfo(SetInfoRequest {
+            info_type: InfoType::FILE,
+            file_info_class: class,
+            buffer: information,
+            buffer_offset: 0,
+            reserved: 0,
+            additional_information: AdditionalInformation(0),
+            file_id,
+        }))?;
+        accept(&self.reply()?)
+    }
+
+    /// Sets the times and attributes of what is open.
+    fn set_basic(&mut self, file_id: FileId, kind: Kind, basic: Basic) -> Result<(), Trouble> {
+        let information = basic_information(self.alloc, kind, basic)?;
+        self.set_info(file_id, BASIC_INFORMATION, &information)
+    }
+
+    /// Makes a folder at a path below the share's root.
+    pub(crate) fn make_folder(&mut self, relative: &str) -> Result<(), Trouble> {
+        let file_id = self.open(relative, Purpose::NewFolder)?;
+        self.close(file_id)
+    }
+
+    /// Sets the times and attributes of a folder.
+    pub(crate) fn mark_folder(&mut self, relative: &str, basic: Basic) -> Result<(), Trouble> {
+        let file_id = self.open(relative, Purpose::MarkFolder)?;
+        self.set_basic(file_id, Kind::Folder, basic)?;
+        self.close(file_id)
+    }
+
+    /// Makes a file at a path below the share's root, which is open then.
+    pub(crate) fn make_file(&mut self, relative: &str) -> Result<FileId, Trouble> {
+        self.open(relative, Purpose::NewFile)
+    }
+
+    /// Writes a part of a file that is open, at an offset in bytes.
     pub(crate) fn write(
         &mut self,
         file_id: FileId,
@@ -217,61 +267,15 @@ impl<'l, 'c, L: Line> Talk<'l, 'c, L> {
         Err(Trouble::Rule(rule_of_write(limits, end, reply.status())))
     }
 
-    /// Reads a part of a file, from an offset in bytes on; None at its end.
-    pub(crate) fn read(&mut self, file_id: FileId, offset: u64) -> Result<Option<&[u8]>, Trouble> {
-        self.client.read(file_id, offset, PART)?;
-        bytes_until(&self.reply()?, NtStatus::EndOfFile)
+    /// Sets the times and attributes of a file that has all its bytes, and closes it.
+    pub(crate) fn finish_file(&mut self, file_id: FileId, basic: Basic) -> Result<(), Trouble> {
+        self.set_basic(file_id, Kind::File, basic)?;
+        self.close(file_id)
     }
 
-    /// Closes what is open.
-    pub(crate) fn close(&mut self, file_id: FileId) -> Result<(), Trouble> {
-        self.client.close(file_id)?;
-        accept(&self.reply()?)
-    }
-
-    /// Sets the times and attributes of what is open.
-    pub(crate) fn mark(&mut self, file_id: FileId, kept: &Kept) -> Result<(), Trouble> {
-        let information = kept.basic_information(self.alloc)?;
-        self.client.ask(&Request::SetInfo(SetInfoRequest {
-            info_type: InfoType::FILE,
-            file_info_class: BASIC_INFORMATION,
-            buffer: &information,
-            buffer_offset: 0,
-            reserved: 0,
-            additional_information: AdditionalInformation(0),
-            file_id,
-        }))?;
-        accept(&self.reply()?)
-    }
-
-    /// The entries of a folder that come next in its listing; None at its end.
-    fn next_listed(&mut self, file_id: FileId) -> Result<Option<&[u8]>, Trouble> {
-        let bytes = units_of(self.alloc, "*")?;
-        let file_name = Units::of(&bytes).ok_or(FolderRule::NotForTheShare)?;
-        self.client.ask(&Request::QueryDirectory(QueryDirectoryRequest {
-            file_information_class: FULL_DIRECTORY_INFORMATION,
-            flags: QueryDirectoryFlags(0),
-            file_index: 0,
-            file_id,
-            file_name_offset: 0,
-            file_name,
-            output_buffer_length: PART,
-        }))?;
-        bytes_until(&self.reply()?, NtStatus::NoMoreFiles)
-    }
-
-    /// The entries of the folder that is at a path below the share's root, in the order of the share.
-    pub(crate) fn list(&mut self, relative: &str) -> Result<Vec<Listed>, Trouble> {
-        let alloc = self.alloc;
-        let file_id = self.open(relative, Purpose::ListFolder)?;
-        let mut listed = Vec::new(alloc);
-        for _ in 0..u64::MAX {
-            match self.next_listed(file_id)? {
-                Some(bytes) => add_listed(alloc, bytes, &mut listed)?,
-                None => break,
-            }
-        }
-        self.close(file_id)?;
-        Ok(listed)
+    /// Takes away a file that was made, and is open.
+    pub(crate) fn discard_file(&mut self, file_id: FileId) -> Result<(), Trouble> {
+        self.set_info(file_id, DISPOSITION_INFORMATION, &[1])?;
+        self.close(file_id)
     }
 }

@@ -10,7 +10,7 @@ use thiserror::Error;
 #[derive(Clone, Copy, Debug, PartialEq, Eq, Error)]
 pub enum JournalFault {
     /// It cannot be opened or read, for this reason.
-    #[error("cannot be read: {0}")]
+    #[error("cannot be read: {0}; name a file that you may read")]
     Unread(Reason),
     /// It cannot be made or written, for this reason.
     #[error("cannot be written: {0}")]

@@ -48,6 +48,6 @@ pub use lines::Lines;
 pub use login::RecordedLogin;
 pub use mailbox::Mailbox;
 pub use peers::{RecordedClock, RecordedPeers};
-pub use recorder::Recorder;
+pub use recorder::{Recorder, VERSION};
 pub use store::Store;
 pub use text::{place_of, read_hex, write_hex};

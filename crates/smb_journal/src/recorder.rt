@@ -12,6 +12,9 @@ use std::alloc::Global;
 use std::io::{ErrorKind, Write};
 use std::{io, mem};
 
+/// The version of the program: a recording names it, and `--version` prints it.
+pub const VERSION: &str = "1.0.0";
+
 /// How many bytes the line of a piece of 65,536 bytes takes at most.
 const LINE_ROOM: usize = 131_200;
 

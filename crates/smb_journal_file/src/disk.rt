@@ -188,7 +188,30 @@ impl<'a> DiskFile<'a> {
         if !self.syncs {
             return Ok(());
         }
-        self.sync_data()
+        self.sync_written()
+    }
+
+    // Waits until what was written lasts, or puts that off where another piece is ready.
+    fn sync_written(&self) -> Result<(), Reason> {
+        let Some(words) = self.next else {
+            return self.sync_data();
+        };
+        if words.sync.put_off() {
+            return Ok(());
+        }
+        let waited = self.sync_data();
+        words.sync.note_waited(waited);
+        waited
+    }
+
+    /// Waits until what was written lasts, where that was put off and no other piece is ready. What it came to is in
+    /// the [`SharedSync`](super::SharedSync).
+    pub fn sync_rest(&self) {
+        if let Some(words) = self.next
+            && words.sync.is_due()
+        {
+            words.sync.note_waited(self.sync_data());
+        }
     }
 
     // Waits until what was written lasts.

@@ -10,6 +10,8 @@
 //!
 //! Where it gets much longer than its files need, a next file is made beside it ([`NextWords`]), which takes its place
 //! once it has all of them. The file whose place it took goes a step at a time.
+//!
+//! Where what is written has to last before it is answered, one wait is for all pieces that are ready ([`SharedSync`]).
 #![tactic(auto)]
 
 mod disk;
@@ -20,6 +22,7 @@ mod next;
 mod pace;
 mod renewals;
 mod room;
+mod shared_sync;
 
 pub use disk::DiskFile;
 pub use done::Done;
@@ -27,3 +30,4 @@ pub use first::{DIGITS, FIRST_LINE, FIRST_LINE_BEFORE, LEAST_AT, SEED_AT, first_
 pub use next::NextWords;
 pub use renewals::{Renewals, Renewed};
 pub use room::{RoomFile, is_full};
+pub use shared_sync::SharedSync;

@@ -4,6 +4,7 @@ ghost use Rattle.std.specs.Prelude.{◌≡◌, [], IfOk, IfSome};
 
 use super::disk::DiskFile;
 use super::first::{first_line, write_least};
+use super::shared_sync::SharedSync;
 use smb_reason::Reason;
 use std::fs::{File, OpenOptions};
 use std::io::{ErrorKind, Write};
@@ -11,11 +12,13 @@ use std::os::unix::fs::{MetadataExt, OpenOptionsExt};
 use std::path::{AsPath, Path};
 use std::{fs, io};
 
-/// Where the next file of a journal is made: beside the journal of this path, under its name and `.new`.
+/// Where the next file of a journal is made: beside the journal of this path, under its name and `.new`; and what is
+/// known of waits until what was written to the journal lasts.
 #[derive(Clone, Copy)]
 pub struct NextWords<'a> {
     pub rt: &'a HostRuntime,
     pub path: &'a str,
+    pub sync: &'a SharedSync,
 }
 
 /// Why the system refused.

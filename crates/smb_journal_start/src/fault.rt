@@ -13,7 +13,7 @@ use thiserror::Error;
 #[derive(Clone, Copy, Debug, PartialEq, Eq, Error)]
 pub enum StartFault {
     /// The journal can't be read, for this reason.
-    #[error("cannot be read: {0}")]
+    #[error("cannot be read: {0}; name a file that you may read")]
     Unread(Reason),
     /// The journal is damaged, or says what no share can have.
     #[error("{0}: take a back-up of it")]

@@ -176,12 +176,11 @@ pub(crate) fn numbers_of<T: Tree>(alloc: Global, tree: &T) -> Result<Vec<EntryNo
 fn compact_recording<W: Write>(
     rt: &HostRuntime,
     file: &str,
-    token: [u8; 16],
     seed: u64,
     out: &mut W,
 ) -> Result<u64, KeptFault> {
     let mailbox = Mailbox::new(rt.alloc());
-    match leave(rt, file, token, &mailbox) {
+    match leave(rt, file, &mailbox) {
         Ok(left) => {
             let tree = left.share.server().store().tree();
             let numbers = numbers_of(rt.alloc(), tree)?;
@@ -218,18 +217,17 @@ pub struct Compacted {
 }
 
 /// Writes a journal, whose first batch has this seed, of the files that a journal or a recording leaves. Entries keep
-/// their numbers. The token is that of the program's own client, and nobody else is to know it.
+/// their numbers.
 pub fn compact<W: Write>(
     rt: &HostRuntime,
     file: &str,
-    token: [u8; 16],
     seed: u64,
     out: &mut W,
 ) -> Result<Compacted, KeptFault> {
     let kind = kind_of(rt, file)?;
     let left_out = match kind {
         Kind::Journal => compact_journal(rt, file, seed, out)?,
-        Kind::Recording(_) => compact_recording(rt, file, token, seed, out)?,
+        Kind::Recording(_) => compact_recording(rt, file, seed, out)?,
     };
     out.flush().map_err(fault_of_output)?;
     Ok(Compacted { kind, left_out })

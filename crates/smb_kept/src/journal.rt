@@ -37,7 +37,7 @@ pub enum FileFault {
     #[error("{missing} of its first {wanted} bytes are missing: it is a copy that was broken off, take another")]
     BrokenOff { missing: u64, wanted: u64 },
     /// The file of its room can't be made or written.
-    #[error("the file of its room, which has its name and .room: {0}")]
+    #[error("the file of its room, which has its name and .room: {0}; move that one away")]
     Room(JournalFault),
     /// A share can't begin with what it keeps.
     #[error("{0}")]

@@ -2,13 +2,10 @@
 
 use crate::fault::KeptFault;
 use crate::files::{give_name, lock, make_file, remove_left, settle_name};
-use smb_journal::{Header, JournalFault, LimitedConfig, Recorder};
+use smb_journal::{Header, JournalFault, LimitedConfig, Recorder, VERSION};
 use std::alloc::Global;
 use std::fs;
 use std::fs::File;
-
-/// The version that a recording names.
-const VERSION: &str = "0.1.0";
 
 /// Where a share is recorded, and how.
 #[derive(Clone, Copy)]

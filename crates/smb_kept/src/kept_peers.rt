@@ -1,6 +1,6 @@
 //! Peers of a share whose changes are kept.
 
-use smb_journal_file::is_full;
+use smb_journal_file::{SharedSync, is_full};
 use smb_peers::{PeerEvent, Peers, SendFault, Stopping, Usage};
 use smb_reason::Reason;
 use std::thread::sleep;
@@ -10,11 +10,15 @@ use std::time::Duration;
 const MILLISECONDS_BETWEEN_TRIALS: u64 = 100;
 
 /// Other peers, which are sent nothing while what changed in the share is not kept; nor is a piece of them taken then.
-/// Where the disk has no room, keeping is tried again; where another reason forbids it, they ask to stop.
+/// Where the disk has no room, keeping is tried again; where another reason forbids it, they ask to stop. While a wait
+/// until what changed lasts is put off, pieces are taken, and nothing is sent.
 #[derive(Drop)]
 pub struct KeptPeers<'a, P: Peers + Drop> {
     rt: &'a HostRuntime,
     peers: P,
+    sync: &'a SharedSync,
+    // Whether a send was put off, and nothing was sent since.
+    is_held: bool,
     // Whether what changed waits for room on the disk.
     waits: bool,
     // Why what changed could not be kept.
@@ -23,10 +27,12 @@ pub struct KeptPeers<'a, P: Peers + Drop> {
 
 impl<'a, P: Peers + Drop> KeptPeers<'a, P> {
     /// Peers of a share of which all is kept so far.
-    pub fn new(rt: &'a HostRuntime, peers: P) -> Self {
+    pub fn new(rt: &'a HostRuntime, peers: P, sync: &'a SharedSync) -> Self {
         KeptPeers {
             rt,
             peers,
+            sync,
+            is_held: false,
             waits: false,
             failure: None,
         }
@@ -34,7 +40,7 @@ impl<'a, P: Peers + Drop> KeptPeers<'a, P> {
 
     /// The peers, and why what changed could not be kept; None where it is, or waits for room.
     pub fn finish(self) -> (P, Option<Reason>) {
-        (self.peers, self.failure)
+        (self.peers, self.failure.or(self.sync.failure()))
     }
 }
 
@@ -52,7 +58,12 @@ impl<P: Peers + Drop> Peers for KeptPeers<'_, P> {
     ghost failed = { λ p. P.failed p.peers };
 
     fn next(&mut self) -> PeerEvent {
+        self.failure = self.failure.or(self.sync.failure());
         if self.failure.is_some() {
+            return PeerEvent::Idle;
+        }
+        if self.is_held && !self.sync.is_put_off() {
+            self.is_held = false;
             return PeerEvent::Idle;
         }
         if self.waits {
@@ -68,6 +79,10 @@ impl<P: Peers + Drop> Peers for KeptPeers<'_, P> {
 
     fn send(&mut self, number: u64, bytes: &[u8]) -> Result<usize, SendFault> {
         if self.waits || self.failure.is_some() {
+            return Ok(0);
+        }
+        self.is_held = self.sync.is_put_off();
+        if self.is_held {
             return Ok(0);
         }
         self.peers.send(number, bytes)

@@ -9,6 +9,7 @@
 //!    perform        a recording line by line on a new share; who [`Hears`] it hears each event with its answers
 //!    put_folder_in  the program's own client puts the files of a folder into a new share
 //!    extract        the files that a journal or a recording leaves, as a new folder
+//!    salvage        ... of a journal that is damaged what is whole
 //!    compact        ... as a new journal
 //! ```
 //!
@@ -20,6 +21,7 @@
 #![tactic(auto)]
 
 mod compacted;
+mod doubts;
 mod extracted;
 mod fault;
 mod files;
@@ -36,11 +38,13 @@ mod performing;
 mod progress;
 mod putting;
 mod room;
+mod salvaged;
+mod salvaged_tree;
 mod share;
 mod steps;
 
 pub use compacted::{Compacted, compact};
-pub use extracted::{Extracted, extract};
+pub use extracted::{Extracted, SalvageReport, extract, salvage};
 pub use fault::KeptFault;
 pub use journal::{FileFault, JournalWords, Kept, keep_changes};
 pub use journal_left::{JournalFiles, journal_files};
@@ -51,5 +55,8 @@ pub use own_client::{own_answer, own_answers, path_of};
 pub use performed::{Deaf, Hears, perform};
 pub use performing::{perform_file, read_recording};
 pub use putting::{OwnLine, OwnRecord, put_folder_in};
+pub use salvaged::Damage;
+pub use salvaged_tree::{Loss, Missing};
 pub use share::{RecordedShare, nobody, recorded_login, recorded_share, share_of};
+pub use smb_folder::Put;
 pub use steps::Steps;

@@ -1,11 +1,11 @@
 //! Files that the program's own client puts into a new share.
 
 use crate::fault::KeptFault;
-use crate::own_client::{TOKEN, log_in};
+use crate::own_client::log_in;
 use crate::progress::TerminalProgress;
 use smb_client::{Client, ClientFault, Line};
 use smb_engine::{Authenticator, Opens, Share, Tree};
-use smb_folder::put_folder_noted;
+use smb_folder::{Put, put_folder_noted};
 use smb_journal::{Mailbox, Recorder};
 use smb_pair::client_fault;
 use smb_peers::Clock;
@@ -165,24 +165,24 @@ fn put_by<L: Line>(
     path: &str,
     line: &mut L,
     client: &mut Client,
-) -> Result<(), KeptFault> {
-    log_in(rt.alloc(), line, client, TOKEN, path)?;
+) -> Result<Put, KeptFault> {
+    log_in(rt.alloc(), line, client, path)?;
     let progress = TerminalProgress::new(rt, folder);
-    let _ = put_folder_noted(rt, limits, folder, line, client, progress)?;
-    Ok(())
+    Ok(put_folder_noted(rt, limits, folder, line, client, progress)?)
 }
 
 /// Puts the files of a folder of the system into a new share of this path and these limits, whose authenticator lets
-/// the program's own client in first. On a terminal standard error has a line a second of how far it is.
+/// the program's own client in first. On a terminal standard error has a line a second of how far it is. What can't
+/// be in the share is a fault of what was [`Put`].
 ///
-/// What can't be in the share is a [`KeptFault::Folder`]: what was put in before is in it then.
+/// A folder that can't be read is a [`KeptFault::Folder`].
 pub fn put_folder_in<A: Authenticator + Drop, T: Tree + Drop, O: Opens + Drop, C: Clock>(
     rt: &HostRuntime,
     limits: Limits,
     folder: &str,
     path: &str,
     line: &mut OwnLine<'_, A, T, O, C>,
-) -> Result<(), KeptFault> {
+) -> Result<Put, KeptFault> {
     let connection = line.open()?;
     let mut client = Client::new(rt.alloc(), connection);
     let put = put_by(rt, limits, folder, path, line, &mut client);

@@ -12,14 +12,6 @@ pub const NEGOTIATED: &str =
 /// An ECHO request with MessageId 1.
 pub const ECHO: &str = "00000044 fe534d42 4000 z6 0d00 0100 z8 0100000000000000 z32 0400 0000";
 
-/// The same with zeros behind it, to the longest payload.
-pub const LONG_ECHO: &str =
-    "00100000 fe534d42 4000 z6 0d00 0100 z8 0100000000000000 z32 0400 0000 z1048508";
-
-/// The reply to both.
-pub const ECHOED: &str =
-    "00000044 fe534d42 4000 z6 0d00 0100 01000000 z4 0100000000000000 z32 0400 0000";
-
 /// The moment of every piece: the start of 1970, in units of 100 ns since 1601.
 pub const MOMENT: u64 = 116_444_736_000_000_000;
 

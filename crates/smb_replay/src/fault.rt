@@ -13,13 +13,13 @@ use thiserror::Error;
 pub enum ListenFault {
     #[error("not ADDR:PORT, an IP address with a port, such as 127.0.0.1:4450")]
     NotAnAddress,
-    #[error("in use: another program listens there")]
+    #[error("in use: another program listens there; end that one, or name another port")]
     InUse,
-    #[error("not an address of this machine")]
+    #[error("not an address of this machine; name one of its own, or 0.0.0.0 for all of them")]
     NotHere,
-    #[error("no right to the port: those below 1024 are the system's")]
+    #[error("no right to the port: those below 1024 are the system's; name a higher one, or give the program CAP_NET_BIND_SERVICE")]
     NotAllowed,
-    #[error("the system refuses it")]
+    #[error("the system refuses it; name another address or port")]
     Refused,
 }
 
@@ -131,6 +131,24 @@ impl CommandFault {
         }
     }
 
+    /// What is said more of standard input or output that fails; None of another fault.
+    fn of_stream(self) -> Option<&'static str> {
+        match self {
+            CommandFault::InputFailed => {
+                Some("standard input can't be read to its end: give it from a file, by <")
+            }
+            CommandFault::InputTooLong => {
+                Some("standard input has more than 67108864 bytes: give it in parts")
+            }
+            CommandFault::OutputFailed => {
+                Some(
+                    "standard output takes no more: give it a file with room, or a reader that stays",
+                )
+            }
+            _ => None,
+        }
+    }
+
     /// Writes what was wrong, in one line, where there is more to say than the fault's own line.
     fn explain<E: Write>(self, alloc: Global, given: Given<'_>, errors: &mut E) -> io::Result<()> {
         let (file, accounts_file) = (
@@ -156,7 +174,10 @@ impl CommandFault {
             CommandFault::TooManyConnections(_, most) => {
                 writeln!(errors, "at most {most} connections are open at a time")
             }
-            _ => Ok(()),
+            _ => match self.of_stream() {
+                Some(text) => writeln!(errors, "{text}"),
+                None => Ok(()),
+            },
         }
     }
 

@@ -10,7 +10,7 @@ use std::io::{Read, Write};
 
 /// What is said of a password whose last character is one that nobody types.
 const CARRIAGE_RETURN: &str =
-    "the password ends in a carriage return, which is taken as a part of it";
+    "the password ends in a carriage return, which is taken as a part of it; give it without where it is not meant";
 
 /// The password in an input: its text, without one line feed at its end.
 fn password_in(input: &[u8]) -> Result<&str, CommandFault> {

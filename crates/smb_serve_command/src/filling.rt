@@ -2,12 +2,14 @@
 
 use crate::clock::ServeClock;
 use crate::serve::{Serving, serve_peers};
-use smb_command_parts::Fault;
+use smb_command_parts::{Fault, Severity, say};
 use smb_engine::{Authenticator, Opens, Share, Tree};
 use smb_journal::{LimitedConfig, Mailbox, RecordedLogin};
 use smb_kept::{
-    KeptFault, OwnLine, OwnRecord, own_answers, path_of, put_folder_in, recorded_login, share_of,
+    KeptFault, OwnLine, OwnRecord, Put, own_answers, path_of, put_folder_in, recorded_login,
+    share_of,
 };
+use smb_reason::Shown;
 use std::alloc::Global;
 
 /// An authenticator that lets the program's own client in first.
@@ -22,6 +24,45 @@ pub fn with_own_client<'m, A: Authenticator + Drop>(
     recorded_login(hello, requires_signing, given, authenticator, mailbox)
 }
 
+/// Says on standard error how many lines of the list beside a folder are of other files.
+fn say_others(rt: &HostRuntime, folder: &str, others: u64) {
+    if others > 0 {
+        let folder = Shown(folder.trim_end_matches('/').as_bytes());
+        let line = format_args!(
+            "{folder}.attributes: {others} lines are of other files than the folder has: passed over"
+        );
+        say(rt, Severity::Warning, line);
+    }
+}
+
+/// Says on standard error what can't be in the share: what is left out, or why it isn't served.
+fn say_refused(rt: &HostRuntime, put: &Put, skips: bool) {
+    let (severity, end) = if skips {
+        (Severity::Warning, ": left out")
+    } else {
+        (Severity::Error, "")
+    };
+    for fault in put.refused.iter() {
+        say(rt, severity, format_args!("folder: {fault}{end}"));
+    }
+    if put.more > 0 {
+        let more = put.more;
+        say(rt, severity, format_args!("folder: and {more} more{end}"));
+    }
+}
+
+/// Says what of a folder can't be in the share, and ends there, unless the words say that it is left out.
+pub fn check_put(serving: Serving<'_, '_>, folder: &str, put: &Put) -> Result<(), Fault> {
+    let skips = serving.words.skips;
+    say_others(serving.rt, folder, put.others);
+    say_refused(serving.rt, put, skips);
+    if skips || (put.refused.is_empty() && put.more == 0) {
+        Ok(())
+    } else {
+        Err(Fault::NotPut)
+    }
+}
+
 /// Puts the files of a folder into a new share of a path, which lets the program's own client in first.
 pub fn put_in<A: Authenticator + Drop, T: Tree + Drop, O: Opens + Drop>(
     serving: Serving<'_, '_>,
@@ -30,7 +71,7 @@ pub fn put_in<A: Authenticator + Drop, T: Tree + Drop, O: Opens + Drop>(
     share: &mut Share<A, T, O>,
     clock: &mut ServeClock<'_>,
     record: Option<OwnRecord<'_>>,
-) -> Result<(), KeptFault> {
+) -> Result<Put, KeptFault> {
     let mut line = OwnLine::new(share, clock, record);
     put_folder_in(serving.rt, serving.limits, folder, path, &mut line)
 }
@@ -43,7 +84,8 @@ fn serve_filled<A: Authenticator + Drop, T: Tree + Drop, O: Opens + Drop>(
     mut share: Share<A, T, O>,
 ) -> Result<(), Fault> {
     let mut clock = ServeClock::new(serving.rt, serving.words.clock);
-    put_in(serving, folder, path, &mut share, &mut clock, None)?;
+    let put = put_in(serving, folder, path, &mut share, &mut clock, None)?;
+    check_put(serving, folder, &put)?;
     serve_peers(serving, &mut share, &mut clock, 2)
 }
 

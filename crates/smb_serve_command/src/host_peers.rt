@@ -1,5 +1,6 @@
 //! TCP peers by the system that the program runs on.
 
+use smb_journal_file::SharedSync;
 use smb_peers::{PeerEvent, Peers, SendFault, Usage};
 use smb_reason::Reason;
 use smb_tcp::TcpPeers;
@@ -9,12 +10,14 @@ use smb_tcp::TcpPeers;
 #[derive(Drop)]
 pub struct HostPeers<'a> {
     peers: TcpPeers<'a, HostRuntime>,
+    /// What is to know whether another piece is ready, where something is.
+    sync: Option<&'a SharedSync>,
 }
 
 impl<'a> HostPeers<'a> {
-    /// These peers.
-    pub fn new(peers: TcpPeers<'a, HostRuntime>) -> Self {
-        HostPeers { peers }
+    /// These peers. `sync` gets to know at each event whether another piece is ready behind it.
+    pub fn new(peers: TcpPeers<'a, HostRuntime>, sync: Option<&'a SharedSync>) -> Self {
+        HostPeers { peers, sync }
     }
 }
 
@@ -32,7 +35,17 @@ impl<'a> Peers for HostPeers<'a> {
     ghost failed = { λ p. ⟦<TcpPeers<'a, HostRuntime> as Peers>⟧.failed p.peers };
 
     fn next(&mut self) -> PeerEvent {
-        self.peers.next()
+        let Some(sync) = self.sync else {
+            return self.peers.next();
+        };
+        // The piece for which a wait was put off may be gone with its connection: none else is waited for.
+        if sync.is_put_off() && !self.peers.is_another_ready() {
+            sync.note_another(false);
+            return PeerEvent::Idle;
+        }
+        let event = self.peers.next();
+        sync.note_another(self.peers.is_another_ready());
+        event
     }
 
     fn piece(&self) -> &[u8] {

@@ -27,6 +27,9 @@ pub trait OnDisk {
 
     /// What came of its journal where it was to be written anew.
     fn renewals(&self) -> Renewals;
+
+    /// Waits until what was written lasts, where that was put off and no other piece is ready.
+    fn sync_rest(&self);
 }
 
 impl OnDisk for KeptTree<'_> {
@@ -37,11 +40,16 @@ impl OnDisk for KeptTree<'_> {
     fn renewals(&self) -> Renewals {
         self.file().renewals()
     }
+
+    fn sync_rest(&self) {
+        self.file().sync_rest()
+    }
 }
 
-/// Looks, behind each turn, whether a share's journal has room, and says on standard error and in the log where it has
-/// none, once a minute at most, and where it has some again; and where it was written anew, or could not be. Then it
-/// looks for who asks for the share's status.
+/// Waits, behind a turn, until what was written to a share's journal lasts, where that was put off and is due. Then
+/// it looks whether the journal has room, and says on standard error and in the log where it has none, once a minute
+/// at most, and where it has some again; and where it was written anew, or could not be. Last it looks for who asks
+/// for the share's status.
 #[derive(Drop)]
 pub struct JournalWatch<'l, 'a> {
     rt: &'a HostRuntime,
@@ -160,6 +168,7 @@ impl<A: Authenticator + Drop, T: Tree + OnDisk + Drop, O: Opens + Drop> Watcher<
     for JournalWatch<'_, '_> {
     fn look(&mut self, share: &Share<A, T, O>) {
         let tree = share.server().store().tree();
+        tree.sync_rest();
         self.note_room(tree.lacks_room());
         self.note_renewals(tree.renewals());
         self.door.look(share);

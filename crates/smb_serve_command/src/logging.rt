@@ -1,17 +1,20 @@
 //! The log of a served share, and what is known of its clients.
 
 use smb_command_parts::{Fault, LogOutput, LogWords, log_of};
+use smb_journal_file::SharedSync;
 use smb_log::{ConnectionFacts, Ending, KeptBack, KeptOut, Log};
 use smb_tcp::{GivenUp, Logins, PeerFacts};
 use smb_wire::limits::Limits;
 use std::alloc::{AllocError, Global};
 use std::cell::RefCell;
 
-/// What is known of the connections of TCP peers, and how their logins ended.
+/// What is known of the connections of TCP peers, how their logins ended, and whether what changed waits until it
+/// lasts.
 #[derive(Drop)]
 pub struct TcpFacts {
     pub peers: PeerFacts,
     pub logins: Logins,
+    pub sync: SharedSync,
 }
 
 impl ConnectionFacts for TcpFacts {
@@ -59,6 +62,7 @@ impl TcpFacts {
         Ok(TcpFacts {
             peers: PeerFacts::new(alloc)?,
             logins: Logins::new(),
+            sync: SharedSync::new(),
         })
     }
 }

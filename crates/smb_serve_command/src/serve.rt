@@ -64,6 +64,8 @@ pub struct ServeWords<'a> {
     pub journal: Option<JournalWords<'a>>,
     /// The folder whose files a new share begins with.
     pub from: Option<&'a str>,
+    /// Whether what of it can't be in the share is left out.
+    pub skips: bool,
     /// The moment of the first piece, for tests.
     pub clock: Option<u64>,
     /// Where the share is logged, if it is.
@@ -224,7 +226,11 @@ pub fn listening_peers<'l, 'a: 'l>(
 ) -> Result<ServedPeers<'l, 'a>, Fault> {
     let listeners = begin_to_listen(rt, words, entrance)?;
     let peers = peers_of(rt, words, entrance.connections, listeners)?;
-    Ok(sight.peers(rt, words, HostPeers::new(peers), next))
+    let sync = match words.journal {
+        Some(journal) if journal.settles => Some(&words.facts.sync),
+        _ => None,
+    };
+    Ok(sight.peers(rt, words, HostPeers::new(peers, sync), next))
 }
 
 /// What came of serving, once all is said of it that is logged: also that its file, a journal or a record, can't be

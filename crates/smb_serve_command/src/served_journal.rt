@@ -4,7 +4,7 @@ ghost use Rattle.std.specs.Prelude.{◌≡◌, IfOk};
 ghost use Rattle.smb_opens.specs.Good.{UnmarkedTree};
 
 use crate::clock::ServeClock;
-use crate::filling::{put_in, with_own_client};
+use crate::filling::{check_put, put_in, with_own_client};
 use crate::journal_watch::{JournalWatch, OnDisk};
 use crate::serve::{Serving, end_of, listening_peers, serve_watched};
 use crate::shown_journal::room_of;
@@ -38,11 +38,14 @@ fn serve_kept_to<
     clock: &mut ServeClock<'_>,
     sight: &Sight<'a>,
 ) -> Result<(P, Option<Reason>), Fault> {
-    let mut kept = KeptPeers::new(serving.rt, peers);
+    let sync = &serving.words.facts.sync;
+    let mut kept = KeptPeers::new(serving.rt, peers, sync);
     let mut watch = JournalWatch::new(serving, sight)?;
     serve_watched(serving, share, &mut kept, clock, sight, &mut watch);
     share.end_all();
+    sync.note_another(false);
     let last = share.keep_changes().err();
+    share.server().store().tree().sync_rest();
     let (peers, failure) = kept.finish();
     Ok((peers, failure.or(last)))
 }
@@ -133,6 +136,7 @@ pub fn serve_journal<A: Authenticator + Drop>(
     let next = NextWords {
         rt: serving.rt,
         path: journal.path,
+        sync: &serving.words.facts.sync,
     };
     match kept_share(next, journal, room.as_str(), limited, authenticator) {
         Ok(share) => serve_begun(serving, share),
@@ -159,12 +163,16 @@ fn serve_filled<A: Authenticator + Drop, T: Tree + OnDisk + Drop, O: Opens + Dro
     mut share: Share<A, T, O>,
 ) -> Result<(), Fault> {
     let mut clock = ServeClock::new(serving.rt, serving.words.clock);
-    if let Err(fault) = put_in(serving, folder, path, &mut share, &mut clock, None) {
-        return Err(Fault::Kept(match share.server().store().tree().lacks_room() {
-            Some(reason) => KeptFault::RecordFailed(reason),
-            None => fault,
-        }));
-    }
+    let put = match put_in(serving, folder, path, &mut share, &mut clock, None) {
+        Ok(put) => put,
+        Err(fault) => {
+            return Err(Fault::Kept(match share.server().store().tree().lacks_room() {
+                Some(reason) => KeptFault::RecordFailed(reason),
+                None => fault,
+            }));
+        }
+    };
+    check_put(serving, folder, &put)?;
     journal.refuse_bytes(serving.rt)?;
     made.give_name(serving.rt, journal.path)?;
     serve_kept(serving, &mut share, &mut clock, 2)
@@ -199,6 +207,7 @@ pub fn serve_journal_folder<A: Authenticator + Drop>(
     let next = NextWords {
         rt,
         path: journal.path,
+        sync: &serving.words.facts.sync,
     };
     let served = match kept_share(next, made, room.path, limited, login) {
         Ok(share) => serve_filled(serving, folder, path.as_str(), made, journal, share),

@@ -1,7 +1,7 @@
 //! A share that is recorded.
 
 use crate::clock::ServeClock;
-use crate::filling::{put_in, with_own_client};
+use crate::filling::{check_put, put_in, with_own_client};
 use crate::serve::{Serving, end_of, listening_peers, serve_seen};
 use crate::sight::Sight;
 use smb_command_parts::Fault;
@@ -141,7 +141,8 @@ fn serve_filled<A: Authenticator + Drop, T: Tree + Drop, O: Opens + Drop>(
     let mut recorder = keeping.begin(alloc)?;
     let mut clock = ServeClock::new(serving.rt, serving.words.clock);
     let own = OwnRecord::new(&mut recorder, mailbox, own_answer(alloc)?);
-    put_in(serving, folder, path, &mut share, &mut clock, Some(own))?;
+    let put = put_in(serving, folder, path, &mut share, &mut clock, Some(own))?;
+    check_put(serving, folder, &put)?;
     record.refuse_existing(serving.rt)?;
     made.give_name(serving.rt, record.path)?;
     serve_begun(serving, &mut share, recorder, 2, mailbox, clock)

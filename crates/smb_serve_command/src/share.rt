@@ -31,7 +31,7 @@ const NOT_THE_OWNERS: u32 = 0o077;
 
 /// What is said of passwords of which one ends in a character that nobody types.
 const CARRIAGE_RETURN: &str =
-    "a password ends in a carriage return, which is taken as a part of it";
+    "a password ends in a carriage return, which is taken as a part of it; give it without where it is not meant";
 
 /// What is said where passwords are typed.
 const ARE_TYPED: &str =
@@ -188,6 +188,7 @@ fn serve_words<'a>(
         record: None,
         journal,
         from: if goes_on { None } else { Some(words.folder) },
+        skips: words.skips,
         clock: None,
         log: None,
         status: None,

@@ -12,6 +12,8 @@ use std::net::SocketAddr;
 pub struct SharingWords<'a> {
     /// The folder whose files are served.
     pub folder: &'a str,
+    /// Whether what of it can't be in the share is left out.
+    pub skips: bool,
     /// The share's name, where it is not to be the folder's last one.
     pub name: Option<&'a str>,
     /// Who may log in, in the order of their passwords.

@@ -122,6 +122,11 @@ impl<'a, R: Net + Clock> TcpPeers<'a, R> {
         self.connections.ready_above(self.turn)
     }
 
+    /// Whether another connection may be read in this round, behind the one that was looked at last.
+    pub fn is_another_ready(&self) -> bool {
+        self.next_place().is_some()
+    }
+
     /// Ends the connection at a place, as if its peer had, and notes why.
     fn end(&mut self, place: usize, why: GivenUp) -> PeerEvent
         requires { place < vec_len self.old.connections.list }

@@ -322,42 +322,42 @@ fn agrees_on_2_0_2(pair: &mut Talk, client: &mut Client) -> bool {
     is_told(pair, client, asked)
 }
 
-/// Whether a client of dialect 2.1 is answered by what is due.
-fn talks_by_what_is_due(pair: &mut Talk, file: &[u8]) -> bool {
-    match pair.connect() {
-        Ok(mut client) => {
-            comes_in(pair, &mut client) && reads_by_what_is_due(pair, &mut client, file)
+/// What a client of a new share does.
+#[derive(Clone, Copy)]
+enum Way {
+    /// It reads by what is due, in dialect 2.1.
+    ByWhatIsDue,
+    /// It writes as much as it may, in dialect 2.1.
+    AsMuchAsItMay,
+    /// It reads by one MessageId each, in dialect 2.0.2.
+    ByOne,
+}
+
+/// Whether a client is answered as it should be that does so with these bytes.
+fn is_answered(pair: &mut Talk, client: &mut Client, way: Way, bytes: &[u8]) -> bool {
+    match way {
+        Way::ByWhatIsDue => comes_in(pair, client) && reads_by_what_is_due(pair, client, bytes),
+        Way::AsMuchAsItMay => comes_in(pair, client) && writes_by_what_is_due(pair, client, bytes),
+        Way::ByOne => {
+            agrees_on_2_0_2(pair, client)
+                && logs_in(pair, client)
+                && reads_by_one(pair, client, bytes)
         }
+    }
+}
+
+/// Whether a new client of a share is.
+fn talks_so(pair: &mut Talk, way: Way, bytes: &[u8]) -> bool {
+    match pair.connect() {
+        Ok(mut client) => is_answered(pair, &mut client, way, bytes),
         Err(_) => false,
     }
 }
 
-/// Whether a client of dialect 2.1 writes as much as it may.
-fn writes_as_much_as_it_may(pair: &mut Talk, bytes: &[u8]) -> bool {
-    match pair.connect() {
-        Ok(mut client) => {
-            comes_in(pair, &mut client) && writes_by_what_is_due(pair, &mut client, bytes)
-        }
-        Err(_) => false,
-    }
-}
-
-/// Whether a client of dialect 2.0.2 is answered by one MessageId each.
-fn talks_by_one(pair: &mut Talk, file: &[u8]) -> bool {
-    match pair.connect() {
-        Ok(mut client) => {
-            agrees_on_2_0_2(pair, &mut client)
-                && logs_in(pair, &mut client)
-                && reads_by_one(pair, &mut client, file)
-        }
-        Err(_) => false,
-    }
-}
-
-/// Whether a client of a new share is answered by what is due.
-fn answers_what_is_due(alloc: Global, file: &[u8]) -> bool {
+/// Whether a client of a new share is.
+fn is_answered_anew(alloc: Global, way: Way, bytes: &[u8]) -> bool {
     match new_pair(alloc) {
-        Some(mut pair) => talks_by_what_is_due(&mut pair, file),
+        Some(mut pair) => talks_so(&mut pair, way, bytes),
         None => false,
     }
 }
@@ -365,41 +365,25 @@ fn answers_what_is_due(alloc: Global, file: &[u8]) -> bool {
 #[test]
 fn a_client_takes_what_is_due(rt: HostRuntime) {
     let is_so = match bytes_of(rt.alloc(), 131_073) {
-        Some(file) => answers_what_is_due(rt.alloc(), &file),
+        Some(file) => is_answered_anew(rt.alloc(), Way::ByWhatIsDue, &file),
         None => false,
     };
     assert!(rt; is_so);
-}
-
-/// Whether a client of a new share writes as much as it may.
-fn takes_as_much_as_it_may(alloc: Global, bytes: &[u8]) -> bool {
-    match new_pair(alloc) {
-        Some(mut pair) => writes_as_much_as_it_may(&mut pair, bytes),
-        None => false,
-    }
 }
 
 #[test]
 fn a_write_has_a_greatest_length(rt: HostRuntime) {
     let is_so = match vec![in rt.alloc(); 0u8; 589_825] {
-        Ok(bytes) => takes_as_much_as_it_may(rt.alloc(), &bytes),
+        Ok(bytes) => is_answered_anew(rt.alloc(), Way::AsMuchAsItMay, &bytes),
         Err(_) => false,
     };
     assert!(rt; is_so);
 }
 
-/// Whether a client of a new share that is of dialect 2.0.2 is answered by one MessageId each.
-fn answers_by_one(alloc: Global, file: &[u8]) -> bool {
-    match new_pair(alloc) {
-        Some(mut pair) => talks_by_one(&mut pair, file),
-        None => false,
-    }
-}
-
 #[test]
 fn a_client_of_dialect_2_0_2_takes_one(rt: HostRuntime) {
     let is_so = match bytes_of(rt.alloc(), 65_536) {
-        Some(file) => answers_by_one(rt.alloc(), &file),
+        Some(file) => is_answered_anew(rt.alloc(), Way::ByOne, &file),
         None => false,
     };
     assert!(rt; is_so);

@@ -1,4 +1,5 @@
-//! What a log says that no replay brings about: ends of all kinds, users of all names, moments, a write that fails, and peers.
+//! What a log says that no replay brings about: ends of all kinds, users of all names, moments, a write that fails,
+//! and peers.
 
 use smb_engine::{Config, HandleTable, NodeTree, Share, Tokens, User};
 use smb_log::{ConnectionFacts, Ending, KeptOut, Level, Log, LogObserver, LoggedPeers};
@@ -180,11 +181,15 @@ fn ann(alloc: Global) -> Result<Tokens, AllocError> {
     Tokens::new(alloc, b"", false, false, vec![in alloc; ann]?)
 }
 
+/// A share of which all is logged.
+type LoggedShare = Share<Tokens, NodeTree, HandleTable>;
+
 /// A share which ann may use.
-fn new_share(alloc: Global) -> Option<Share<Tokens, NodeTree, HandleTable>> {
-    let config = config(alloc).ok()?;
-    let users = ann(alloc).ok()?;
-    Share::in_memory(alloc, config, users).ok()
+fn new_share(alloc: Global) -> Option<LoggedShare> {
+    match (config(alloc), ann(alloc)) {
+        (Ok(config), Ok(users)) => Share::in_memory(alloc, config, users).ok(),
+        _ => None,
+    }
 }
 
 /// Peers that bring this client, and take the first bytes for it in two parts.
@@ -217,24 +222,71 @@ impl ConnectionFacts for NoFacts {
     }
 }
 
-/// Serves this client a new share, of which all is logged: the events at these moments, and the rest at the last of them.
-fn serve_logged(alloc: Global, log: &RefCell<Log<Vec<u8>>>, moments: &[u64]) -> Option<()> {
-    let mut share = new_share(alloc)?;
-    let client = client(alloc).ok()?;
-    let clock = ListClock::new(alloc, moments).ok()?;
-    let mut peers = LoggedPeers::new(alloc, client, &NoFacts, clock, Some(log), false, 1);
-    let mut clock = ListClock::new(alloc, &[NOW]).ok()?;
-    let mut observer = LogObserver::new(Some(log), ListClock::new(alloc, &[NOW + 520]).ok()?);
-    let _ = serve_until_observed(&mut share, &mut peers, &mut clock, 5, &mut observer);
+/// The clocks of what is served: of the events, of the share, and of who looks on.
+#[derive(Drop)]
+struct Clocks {
+    events: ListClock,
+    share: ListClock,
+    observer: ListClock,
+}
+
+/// Clocks of which the first has these moments, and then the last of them.
+fn clocks_of(alloc: Global, moments: &[u64]) -> Result<Clocks, AllocError> {
+    Ok(Clocks {
+        events: ListClock::new(alloc, moments)?,
+        share: ListClock::new(alloc, &[NOW])?,
+        observer: ListClock::new(alloc, &[NOW + 520])?,
+    })
+}
+
+/// Serves a share to this client, of which all is logged.
+fn serve_by(
+    alloc: Global,
+    share: &mut LoggedShare,
+    log: &RefCell<Log<Vec<u8>>>,
+    client: MemoryPeers,
+    clocks: Clocks,
+) {
+    let mut peers = LoggedPeers::new(alloc, client, &NoFacts, clocks.events, Some(log), false, 1);
+    let mut clock = clocks.share;
+    let mut observer = LogObserver::new(Some(log), clocks.observer);
+    let _ = serve_until_observed(share, &mut peers, &mut clock, 5, &mut observer);
     let _ = peers.finish(share.usage());
-    Some(())
+}
+
+/// Serves a share to this client: the events at these moments, and the rest at the last of them. Says whether there
+/// was memory.
+fn serve_logged(
+    alloc: Global,
+    share: &mut LoggedShare,
+    log: &RefCell<Log<Vec<u8>>>,
+    moments: &[u64],
+) -> bool {
+    match (client(alloc), clocks_of(alloc, moments)) {
+        (Ok(client), Ok(clocks)) => {
+            serve_by(alloc, share, log, client, clocks);
+            true
+        }
+        _ => false,
+    }
+}
+
+/// Serves this client a new share so.
+fn serve_anew(alloc: Global, log: &RefCell<Log<Vec<u8>>>, moments: &[u64]) -> bool {
+    match new_share(alloc) {
+        Some(mut share) => serve_logged(alloc, &mut share, log, moments),
+        None => false,
+    }
 }
 
 /// The log of the share that this client is served, whose events have these moments.
 fn served(alloc: Global, level: Level, moments: &[u64]) -> Option<String> {
     let log = RefCell::new(Log::new(alloc, Vec::new(alloc), level, 0));
-    serve_logged(alloc, &log, moments)?;
-    text_of(log.into_inner())
+    if serve_anew(alloc, &log, moments) {
+        text_of(log.into_inner())
+    } else {
+        None
+    }
 }
 
 /// What a share does is what its log says.
@@ -253,7 +305,8 @@ fn logs_a_served_share(rt: HostRuntime) {
     assert!(rt; is_right);
 }
 
-/// Where a minute has passed, a line says what there is, and what happened since the last; a minute after `NOW` is 06:12:07.123.
+/// Where a minute has passed, a line says what there is, and what happened since the last; a minute after `NOW` is
+/// 06:12:07.123.
 #[test]
 fn counts_each_minute(rt: HostRuntime) {
     let is_right = is_same(

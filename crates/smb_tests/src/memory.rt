@@ -90,14 +90,14 @@ fn has_taken(alloc: Global, peers: &mut MemoryPeers, turns: u64, count: usize) -
     serves_anew(alloc, peers, MOMENT, turns) && took_answer(alloc, peers, 1, count)
 }
 
-/// Client 1, as one of whose answer a send takes at first 100 bytes.
-fn slow_client(alloc: Global) -> Option<MemoryPeers> {
-    peers(alloc, one_client(alloc)?, SendStep::Takes(100), 1)
+/// Client 1, as peers with a step for each of so many sends.
+fn client(alloc: Global, step: SendStep, count: usize) -> Option<MemoryPeers> {
+    peers(alloc, one_client(alloc)?, step, count)
 }
 
-/// Whether that client has taken so many bytes after so many turns.
+/// Whether client 1, of whose answer a send takes at first 100 bytes, has taken so many bytes after so many turns.
 fn takes_in_time(alloc: Global, turns: u64, count: usize) -> bool {
-    match slow_client(alloc) {
+    match client(alloc, SendStep::Takes(100), 1) {
         Some(mut peers) => has_taken(alloc, &mut peers, turns, count),
         None => false,
     }
@@ -111,11 +111,6 @@ fn sends_what_was_not_taken(rt: HostRuntime) {
     assert!(rt; first && all && later);
 }
 
-/// Client 1, as one of whose answer each send takes a byte.
-fn slowest_client(alloc: Global) -> Option<MemoryPeers> {
-    peers(alloc, one_client(alloc)?, SendStep::Takes(1), 200)
-}
-
 /// Whether an answer comes whole in so many turns, and the client is not closed.
 fn comes_whole(alloc: Global, peers: &mut MemoryPeers) -> bool {
     has_taken(alloc, peers, 140, ANSWER) && peers.closed(1) == 0
@@ -123,7 +118,7 @@ fn comes_whole(alloc: Global, peers: &mut MemoryPeers) -> bool {
 
 #[test]
 fn sends_byte_by_byte(rt: HostRuntime) {
-    let is_so = match slowest_client(rt.alloc()) {
+    let is_so = match client(rt.alloc(), SendStep::Takes(1), 200) {
         Some(mut peers) => comes_whole(rt.alloc(), &mut peers),
         None => false,
     };
@@ -161,9 +156,25 @@ fn have_met(alloc: Global, peers: &mut MemoryPeers, turns: u64, first: Met, seco
         && peers.failures() == 1
 }
 
-/// Two clients, as peers whose first send fails.
-fn a_send_fails(alloc: Global) -> Option<MemoryPeers> {
-    peers(alloc, two_clients(alloc)?, SendStep::Fails, 1)
+/// The same of clients that may not have been made.
+fn meet(alloc: Global, peers: Option<MemoryPeers>, turns: u64, first: Met, second: Met) -> bool {
+    match peers {
+        Some(mut peers) => have_met(alloc, &mut peers, turns, first, second),
+        None => false,
+    }
+}
+
+/// So many sends that take 40 bytes, and one that fails.
+fn fails_behind(alloc: Global, place: usize) -> Option<Vec<SendStep>> {
+    let mut sends = Vec::from_elem(alloc, SendStep::Takes(40), place).ok()?;
+    sends.push(SendStep::Fails).ok()?;
+    Some(sends)
+}
+
+/// Two clients, as peers with these sends.
+fn a_send_fails_behind(alloc: Global, place: usize) -> Option<MemoryPeers> {
+    let sends = fails_behind(alloc, place)?;
+    MemoryPeers::new(alloc, two_clients(alloc)?, sends, CALLS, ROOM).ok()
 }
 
 /// Two clients, of the first of which a read fails.
@@ -171,18 +182,18 @@ fn a_read_fails(alloc: Global) -> Option<MemoryPeers> {
     peers(alloc, one_fails(alloc)?, SendStep::Takes(200), 1)
 }
 
-/// Whether the first client is closed once, with nothing taken, and the next one is served.
-fn ends_the_first(alloc: Global, peers: Option<MemoryPeers>) -> bool {
-    match peers {
-        Some(mut peers) => have_met(alloc, &mut peers, 10, closed_behind(0), ALL),
-        None => false,
-    }
-}
-
+/// The first client is closed once, with nothing taken, and the next one is served.
 #[test]
 fn ends_a_client_that_fails_alone(rt: HostRuntime) {
-    let sends = ends_the_first(rt.alloc(), a_send_fails(rt.alloc()));
-    let reads = ends_the_first(rt.alloc(), a_read_fails(rt.alloc()));
+    let alloc = rt.alloc();
+    let sends = meet(
+        alloc,
+        a_send_fails_behind(alloc, 0),
+        10,
+        closed_behind(0),
+        ALL,
+    );
+    let reads = meet(alloc, a_read_fails(alloc), 10, closed_behind(0), ALL);
     assert!(rt; sends && reads);
 }
 
@@ -233,64 +244,81 @@ fn a_read_fails_at(alloc: Global, place: u32) -> Option<MemoryPeers> {
     peers(alloc, fails_before(alloc, place)?, SendStep::Takes(200), 1)
 }
 
-/// Whether client 1 took so many bytes of its answers where a read of it fails at a place, and was closed once; and client 2
-/// all of its own.
-fn ends_at_a_read(alloc: Global, place: u32, count: usize) -> bool {
-    match a_read_fails_at(alloc, place) {
-        Some(mut peers) => have_met(alloc, &mut peers, 12, closed_behind(count), ALL),
-        None => false,
-    }
-}
-
+/// Client 1 takes what was answered before, and is closed once; client 2 takes all of its own.
 #[test]
 fn ends_a_client_at_each_read_that_fails(rt: HostRuntime) {
-    let first = ends_at_a_read(rt.alloc(), 0, 0);
-    let second = ends_at_a_read(rt.alloc(), 1, 0);
-    let third = ends_at_a_read(rt.alloc(), 2, ANSWER);
+    let alloc = rt.alloc();
+    let first = meet(alloc, a_read_fails_at(alloc, 0), 12, closed_behind(0), ALL);
+    let second = meet(alloc, a_read_fails_at(alloc, 1), 12, closed_behind(0), ALL);
+    let third = meet(
+        alloc,
+        a_read_fails_at(alloc, 2),
+        12,
+        closed_behind(ANSWER),
+        ALL,
+    );
     assert!(rt; first && second && third);
 }
 
-/// So many sends that take 40 bytes, and one that fails.
-fn fails_behind(alloc: Global, place: usize) -> Option<Vec<SendStep>> {
-    let mut sends = Vec::from_elem(alloc, SendStep::Takes(40), place).ok()?;
-    sends.push(SendStep::Fails).ok()?;
-    Some(sends)
-}
+/// What both clients meet where the send of a place fails, and those before it take 40 bytes: the first three sends
+/// and the fifth are to client 1, the fourth is to client 2.
+const SENDS: [(Met, Met); 5] = [
+    (
+        Met {
+            count: 0,
+            closed: 1,
+        },
+        ALL,
+    ),
+    (
+        Met {
+            count: 40,
+            closed: 1,
+        },
+        ALL,
+    ),
+    (
+        Met {
+            count: 80,
+            closed: 1,
+        },
+        ALL,
+    ),
+    (
+        ALL,
+        Met {
+            count: 0,
+            closed: 1,
+        },
+    ),
+    (
+        Met {
+            count: 120,
+            closed: 1,
+        },
+        ALL,
+    ),
+];
 
-/// Two clients, as peers with these sends.
-fn a_send_fails_behind(alloc: Global, place: usize) -> Option<MemoryPeers> {
-    let sends = fails_behind(alloc, place)?;
-    MemoryPeers::new(alloc, two_clients(alloc)?, sends, CALLS, ROOM).ok()
-}
-
-/// Whether both clients met this, where the send of a place fails and those before it take 40 bytes.
-fn ends_at_a_send(alloc: Global, place: usize, first: Met, second: Met) -> bool {
-    match a_send_fails_behind(alloc, place) {
-        Some(mut peers) => have_met(alloc, &mut peers, 12, first, second),
-        None => false,
+/// The first place at which they meet something else.
+fn met_otherwise(alloc: Global) -> Option<usize> {
+    for (place, (first, second)) in SENDS.iter().enumerate() {
+        if !meet(
+            alloc,
+            a_send_fails_behind(alloc, place),
+            12,
+            *first,
+            *second,
+        ) {
+            return Some(place);
+        }
     }
+    None
 }
 
-/// The first three sends and the fifth are to client 1, the fourth is to client 2.
 #[test]
 fn ends_a_client_at_each_send_that_fails(rt: HostRuntime) {
-    for (place, first, second) in [
-        (0usize, closed_behind(0), ALL),
-        (1, closed_behind(40), ALL),
-        (2, closed_behind(80), ALL),
-        (3, ALL, closed_behind(0)),
-        (4, closed_behind(120), ALL),
-    ] {
-        assert!(rt;
-            ends_at_a_send(rt.alloc(), place, first, second),
-            "at {place}"
-        );
-    }
-}
-
-/// Client 1, as one that takes its answer whole.
-fn quick_client(alloc: Global) -> Option<MemoryPeers> {
-    peers(alloc, one_client(alloc)?, SendStep::Takes(200), 1)
+    assert_eq!(rt; met_otherwise(rt.alloc()), None);
 }
 
 /// Whether an answer has the clock's moment, also one before 1970.
@@ -302,7 +330,7 @@ fn tells_an_early_moment(alloc: Global, peers: &mut MemoryPeers) -> bool {
 
 #[test]
 fn tells_what_the_clock_tells(rt: HostRuntime) {
-    let is_so = match quick_client(rt.alloc()) {
+    let is_so = match client(rt.alloc(), SendStep::Takes(200), 1) {
         Some(mut peers) => tells_an_early_moment(rt.alloc(), &mut peers),
         None => false,
     };

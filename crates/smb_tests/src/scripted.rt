@@ -5,11 +5,10 @@ ghost use Rattle.std.specs.List.{AllByRecursion};
 ghost use Rattle.smb_session.specs.Authenticator.{IsLawful};
 ghost use Rattle.smb_session.specs.Answers.{answered_by};
 
-use super::calls::{opens, takes};
 use smb_config::{BUILT_IN, Configuration};
 use smb_engine::{Fate, Share};
 use smb_handles::HandleTable;
-use smb_layer_tests::words::{NEGOTIATE, NEGOTIATED, frames};
+use smb_layer_tests::words::{MOMENT, NEGOTIATE, NEGOTIATED, frames};
 use smb_nodes::NodeTree;
 use smb_session::{Answer, Scripted};
 use std::alloc::Global;
@@ -59,18 +58,29 @@ fn told_share(alloc: Global) -> Option<Told> {
     }
 }
 
+/// Whether connection 1, which is open, takes a piece and stays open.
+fn takes(share: &mut Told, piece: &[u8], out: &mut Vec<u8>) -> bool {
+    if !share.is_open(1) {
+        return false;
+    }
+    match share.feed(1, MOMENT, piece, out) {
+        Ok(found) => found == Fate::Open,
+        Err(_) => false,
+    }
+}
+
 /// Whether a frame on connection 1 is answered by a frame.
 fn answers(share: &mut Told, alloc: Global, request: &str, reply: &str) -> bool {
     let Some(piece) = frames(alloc, &[request]) else {
         return false;
     };
     let mut out = Vec::new(alloc);
-    takes(share, 1, &piece, &mut out, Fate::Open) && frames(alloc, &[reply]) == Some(out)
+    takes(share, &piece, &mut out) && frames(alloc, &[reply]) == Some(out)
 }
 
 /// Whether a client is asked for more, and then denied.
 fn follows(share: &mut Told, alloc: Global) -> bool {
-    opens(share, 1, 1)
+    share.opened() == Ok(1)
         && answers(share, alloc, NEGOTIATE, NEGOTIATED)
         && answers(share, alloc, SETUP, MORE)
         && answers(share, alloc, NEXT, DENIED)

@@ -1,6 +1,6 @@
 //! A share that is served over TCP, with its client in the same thread.
 
-use super::calls::{Served, built_in};
+use super::serving::{Served, built_in};
 use smb_layer_tests::words::{NEGOTIATE, NEGOTIATED, frames};
 use smb_serving::serve;
 use smb_tcp::{SystemClock, TcpPeers};

@@ -2,8 +2,11 @@
 
 use smb_client::Status;
 use smb_config::{ConfigFault, ConfigRule};
-use smb_engine::{HandleTable, NodeTree, PlainOpens, PlainTree, RunFault, ServeFault};
+use smb_engine::{
+    HandleTable, NodeTree, PlainOpens, PlainTree, RunFault, ServeFault, laws_of_shares,
+};
 use smb_replay::{CommandFault, Expected};
+use smb_session::Tokens;
 use std::alloc::Global;
 use std::error::Error;
 use std::fmt::Debug;
@@ -32,6 +35,7 @@ fn says_where_a_run_stopped(rt: HostRuntime) {
         fault: ServeFault::BadEvent,
     };
     assert!(rt; says(rt.alloc(), &fault, "event 2, connection 7: a bad event"));
+    laws_of_shares::<Tokens>();
 }
 
 #[test]

@@ -3,8 +3,7 @@
 ghost use Rattle.std.specs.Prelude.{IfSome, IsTrue};
 ghost use Rattle.smb_serving.specs.MemoryPeers.{are_distinct, opened_by};
 
-use super::calls::built_in;
-use super::serving::serves_anew;
+use super::serving::{built_in, serves_anew};
 use smb_client::{Client, ClientFault, Replies};
 use smb_handles::HandleTable;
 use smb_layer_tests::words::MOMENT;

@@ -186,6 +186,7 @@ fn serve_words<'a>(
         record: record_of(words),
         journal: journal_of(words),
         from: words.get_str("from"),
+        skips: words.get_flag("skip"),
         clock: words.get_one("clock"),
         log: log_words_of(words, words.get_flag("log-must")),
         status: status_of_words(words),
@@ -213,6 +214,7 @@ fn share_with_clients(rt: &HostRuntime, words: &ArgMatches<'_>) -> ExitCode {
     };
     let sharing = SharingWords {
         folder: word_of(words, "folder"),
+        skips: words.get_flag("skip"),
         name: words.get_str("name"),
         accounts: words.get_strs("account").unwrap_or(&[]),
         passwords: words.get_str("passwords"),
@@ -282,7 +284,7 @@ fn run_command(
         Some(("show", words)) => show_input(rt, words.get_flag("fields")),
         Some(("nt-hash", _)) => hash_input(rt),
         Some(("extract", words)) => {
-            let ended = extract(rt, word_of(words, "folder"));
+            let ended = extract(rt, word_of(words, "folder"), words.get_flag("salvage"));
             status_of(rt, ended, Detail::Brief)
         }
         Some(("compact", _)) => status_of(rt, compact(rt), Detail::Brief),

@@ -71,97 +71,107 @@ const QUERY_DIRECTORY: [u8; 12] = [
 /// QUERY_INFO.
 const QUERY_INFO: [u8; 8] = [0x09, 0x00, 0x48, 0x00, 0x00, 0x00, 0x00, 0x00];
 
-#[test]
-fn replies_that_let_in(rt: HostRuntime) {
-    let alloc = rt.alloc();
-    let reply = Reply::Negotiate(NegotiateResponse {
-        security_mode: SecurityMode(1),
-        dialect_revision: DialectRevision(0x0202),
-        server_guid: Guid([0, 1, 2, 3, 4, 5, 6, 7, 8, 9, 10, 11, 12, 13, 14, 15]),
-        capabilities: Capabilities(0),
-        max_transact_size: 65_536,
-        max_read_size: 65_536,
-        max_write_size: 65_536,
-        system_time: M,
-        server_start_time: 0,
-        security_buffer: &[],
-    });
-    assert!(rt; is_written(alloc, &reply, &NEGOTIATE));
-    let reply = Reply::SessionSetup(SessionSetupResponse {
-        session_flags: SessionFlags::IS_GUEST,
-        security_buffer: b"\xaa\xbb",
-    });
-    assert!(rt; is_written(alloc, &reply, &SESSION_SETUP));
-    let reply = Reply::TreeConnect(TreeConnectResponse {
-        share_type: ShareType::DISK,
-        share_flags: ShareFlags(0),
-        capabilities: Capabilities(0),
-        maximal_access: Access(0x001f_01ff),
-    });
-    assert!(rt; is_written(alloc, &reply, &TREE_CONNECT));
-}
+/// A reply, and the body that it is written as.
+type Row = (Reply<'static>, &'static [u8]);
 
-#[test]
-fn replies_of_opens(rt: HostRuntime) {
-    let alloc = rt.alloc();
-    let reply = Reply::Create(CreateResponse {
-        oplock_level: OplockLevel::NONE,
-        create_action: CreateAction::Created,
-        creation_time: M,
-        last_access_time: M + 1,
-        last_write_time: M + 2,
-        change_time: M + 3,
-        allocation_size: 4_096,
-        end_of_file: 3,
-        file_attributes: FileAttributes::ARCHIVE,
-        file_id: FileId {
-            persistent: 1,
-            volatile: 0x0807_0605_0403_0201,
-        },
-    });
-    assert!(rt; is_written(alloc, &reply, &CREATE));
-    let reply = Reply::Close(CloseResponse {
-        flags: CloseFlags::POSTQUERY_ATTRIB,
-        creation_time: M,
-        last_access_time: M + 1,
-        last_write_time: M + 2,
-        change_time: M + 3,
-        allocation_size: 4_096,
-        end_of_file: 3,
-        file_attributes: FileAttributes::NORMAL,
-    });
-    assert!(rt; is_written(alloc, &reply, &CLOSE));
-}
+/// A reply of each kind.
+static REPLIES: [Row; 16] = [
+    (
+        Reply::Negotiate(NegotiateResponse {
+            security_mode: SecurityMode(1),
+            dialect_revision: DialectRevision(0x0202),
+            server_guid: Guid([0, 1, 2, 3, 4, 5, 6, 7, 8, 9, 10, 11, 12, 13, 14, 15]),
+            capabilities: Capabilities(0),
+            max_transact_size: 65_536,
+            max_read_size: 65_536,
+            max_write_size: 65_536,
+            system_time: M,
+            server_start_time: 0,
+            security_buffer: &[],
+        }),
+        &NEGOTIATE,
+    ),
+    (
+        Reply::SessionSetup(SessionSetupResponse {
+            session_flags: SessionFlags::IS_GUEST,
+            security_buffer: b"\xaa\xbb",
+        }),
+        &SESSION_SETUP,
+    ),
+    (
+        Reply::TreeConnect(TreeConnectResponse {
+            share_type: ShareType::DISK,
+            share_flags: ShareFlags(0),
+            capabilities: Capabilities(0),
+            maximal_access: Access(0x001f_01ff),
+        }),
+        &TREE_CONNECT,
+    ),
+    (Reply::Error, &[9, 0, 0, 0, 0, 0, 0, 0, 0]),
+    (
+        Reply::Create(CreateResponse {
+            oplock_level: OplockLevel::NONE,
+            create_action: CreateAction::Created,
+            creation_time: M,
+            last_access_time: M + 1,
+            last_write_time: M + 2,
+            change_time: M + 3,
+            allocation_size: 4_096,
+            end_of_file: 3,
+            file_attributes: FileAttributes::ARCHIVE,
+            file_id: FileId {
+                persistent: 1,
+                volatile: 0x0807_0605_0403_0201,
+            },
+        }),
+        &CREATE,
+    ),
+    (
+        Reply::Close(CloseResponse {
+            flags: CloseFlags::POSTQUERY_ATTRIB,
+            creation_time: M,
+            last_access_time: M + 1,
+            last_write_time: M + 2,
+            change_time: M + 3,
+            allocation_size: 4_096,
+            end_of_file: 3,
+            file_attributes: FileAttributes::NORMAL,
+        }),
+        &CLOSE,
+    ),
+    (Reply::Read(ReadResponse { buffer: b"abc" }), &READ),
+    (Reply::Write(WriteResponse { count: 2 }), &WRITE),
+    (
+        Reply::QueryDirectory(QueryResponse {
+            output_buffer: b"abcd",
+        }),
+        &QUERY_DIRECTORY,
+    ),
+    (
+        Reply::QueryInfo(QueryResponse { output_buffer: &[] }),
+        &QUERY_INFO,
+    ),
+    (Reply::Logoff, &[4, 0, 0, 0]),
+    (Reply::TreeDisconnect, &[4, 0, 0, 0]),
+    (Reply::Flush, &[4, 0, 0, 0]),
+    (Reply::Lock, &[4, 0, 0, 0]),
+    (Reply::Echo, &[4, 0, 0, 0]),
+    (Reply::SetInfo, &[2, 0]),
+];
 
-#[test]
-fn other_replies(rt: HostRuntime) {
-    let alloc = rt.alloc();
-    let reply = Reply::Read(ReadResponse { buffer: b"abc" });
-    assert!(rt; is_written(alloc, &reply, &READ));
-    let reply = Reply::Write(WriteResponse { count: 2 });
-    assert!(rt; is_written(alloc, &reply, &WRITE));
-    let reply = Reply::QueryDirectory(QueryResponse {
-        output_buffer: b"abcd",
-    });
-    assert!(rt; is_written(alloc, &reply, &QUERY_DIRECTORY));
-    let reply = Reply::QueryInfo(QueryResponse { output_buffer: &[] });
-    assert!(rt; is_written(alloc, &reply, &QUERY_INFO));
-}
-
-#[test]
-fn replies_without_fields(rt: HostRuntime) {
-    let alloc = rt.alloc();
-    assert!(rt; is_written(alloc, &Reply::Error, &[9, 0, 0, 0, 0, 0, 0, 0, 0]));
-    for reply in [
-        Reply::Logoff,
-        Reply::TreeDisconnect,
-        Reply::Flush,
-        Reply::Lock,
-        Reply::Echo,
-    ] {
-        assert!(rt; is_written(alloc, &reply, &[4, 0, 0, 0]));
+/// The place of the first reply that is not written as its body.
+fn written_otherwise(alloc: Global) -> Option<usize> {
+    for (place, (reply, body)) in REPLIES.iter().enumerate() {
+        if !is_written(alloc, reply, body) {
+            return Some(place);
+        }
     }
-    assert!(rt; is_written(alloc, &Reply::SetInfo, &[2, 0]));
+    None
+}
+
+#[test]
+fn replies(rt: HostRuntime) {
+    assert_eq!(rt; written_otherwise(rt.alloc()), None);
 }
 
 /// What a READ's fixed part and its data are, written one behind the other.

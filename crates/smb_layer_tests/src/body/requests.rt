@@ -210,33 +210,34 @@ fn is_made(alloc: Global, command: u16, request: Option<Request<'_>>, body: &[u8
     }
 }
 
-#[test]
-fn requests_with_texts_and_lists(rt: HostRuntime) {
-    let alloc = rt.alloc();
-    assert!(rt; is_made(alloc, 0, negotiate(), &NEGOTIATE));
-    assert!(rt; is_made(alloc, 3, tree_connect(), &TREE_CONNECT));
-    assert!(rt; is_made(alloc, 5, create(), &CREATE));
-    assert!(rt; is_made(alloc, 0xa, lock(), &LOCK));
-    assert!(rt; is_made(alloc, 0xe, query_directory(), &QUERY_DIRECTORY));
-    laws_of_requests();
+/// Whether each request with a text or a list is made, and spelled so.
+fn are_made(alloc: Global) -> bool {
+    is_made(alloc, 0, negotiate(), &NEGOTIATE)
+        && is_made(alloc, 3, tree_connect(), &TREE_CONNECT)
+        && is_made(alloc, 5, create(), &CREATE)
+        && is_made(alloc, 0xa, lock(), &LOCK)
+        && is_made(alloc, 0xe, query_directory(), &QUERY_DIRECTORY)
 }
 
 #[test]
-fn requests_of_a_file(rt: HostRuntime) {
-    let alloc = rt.alloc();
-    let request = Request::Close(CloseRequest {
+fn requests_with_texts_and_lists(rt: HostRuntime) {
+    assert!(rt; are_made(rt.alloc()));
+    laws_of_requests();
+}
+
+/// Whether CLOSE, FLUSH and READ are spelled.
+fn spells_close_flush_and_read(alloc: Global) -> bool {
+    let close = Request::Close(CloseRequest {
         flags: CloseFlags::POSTQUERY_ATTRIB,
         reserved: 2,
         file_id: FILE_ID,
     });
-    assert!(rt; is_spelled(alloc, 6, &request, &CLOSE));
-    let request = Request::Flush(FlushRequest {
+    let flush = Request::Flush(FlushRequest {
         reserved1: 1,
         reserved2: 2,
         file_id: FILE_ID,
     });
-    assert!(rt; is_spelled(alloc, 7, &request, &FLUSH));
-    let request = Request::Read(ReadRequest {
+    let read = Request::Read(ReadRequest {
         padding: 0x50,
         flags: ReadFlags(1),
         length: 0x0001_0000,
@@ -248,12 +249,14 @@ fn requests_of_a_file(rt: HostRuntime) {
         read_channel_info_offset: 5,
         read_channel_info_length: 6,
     });
-    assert!(rt; is_spelled(alloc, 8, &request, &READ));
+    is_spelled(alloc, 6, &close, &CLOSE)
+        && is_spelled(alloc, 7, &flush, &FLUSH)
+        && is_spelled(alloc, 8, &read, &READ)
 }
 
-#[test]
-fn a_write(rt: HostRuntime) {
-    let request = Request::Write(WriteRequest {
+/// Whether WRITE and SESSION_SETUP are.
+fn spells_write_and_session_setup(alloc: Global) -> bool {
+    let write = Request::Write(WriteRequest {
         data_offset: 112,
         buffer: b"abc",
         offset: 14,
@@ -264,13 +267,7 @@ fn a_write(rt: HostRuntime) {
         write_channel_info_length: 4,
         flags: WriteFlags(5),
     });
-    assert!(rt; is_spelled(rt.alloc(), 9, &request, &WRITE));
-}
-
-#[test]
-fn other_requests(rt: HostRuntime) {
-    let alloc = rt.alloc();
-    let request = Request::SessionSetup(SessionSetupRequest {
+    let setup = Request::SessionSetup(SessionSetupRequest {
         flags: SessionSetupFlags(1),
         security_mode: SessionSecurityMode(2),
         capabilities: Capabilities(3),
@@ -279,8 +276,12 @@ fn other_requests(rt: HostRuntime) {
         security_buffer: b"abcd",
         previous_session_id: 0x0807_0605_0403_0201,
     });
-    assert!(rt; is_spelled(alloc, 1, &request, &SESSION_SETUP));
-    let request = Request::QueryInfo(QueryInfoRequest {
+    is_spelled(alloc, 9, &write, &WRITE) && is_spelled(alloc, 1, &setup, &SESSION_SETUP)
+}
+
+/// Whether QUERY_INFO and SET_INFO are.
+fn spells_query_and_set_info(alloc: Global) -> bool {
+    let query = Request::QueryInfo(QueryInfoRequest {
         info_type: InfoType::FILE,
         file_info_class: InformationClass(5),
         output_buffer_length: 24,
@@ -291,8 +292,7 @@ fn other_requests(rt: HostRuntime) {
         flags: QueryInfoFlags(5),
         file_id: FILE_ID,
     });
-    assert!(rt; is_spelled(alloc, 0x10, &request, &QUERY_INFO));
-    let request = Request::SetInfo(SetInfoRequest {
+    let set = Request::SetInfo(SetInfoRequest {
         info_type: InfoType::FILE,
         file_info_class: InformationClass(20),
         buffer: b"\0\x10\0\0\0\0\0\0",
@@ -301,16 +301,25 @@ fn other_requests(rt: HostRuntime) {
         additional_information: AdditionalInformation(2),
         file_id: FILE_ID,
     });
-    assert!(rt; is_spelled(alloc, 0x11, &request, &SET_INFO));
+    is_spelled(alloc, 0x10, &query, &QUERY_INFO) && is_spelled(alloc, 0x11, &set, &SET_INFO)
+}
+
+/// Whether each request without fields is.
+fn spells_reserved(alloc: Global) -> bool {
+    let request = ReservedRequest { reserved: 0x1234 };
+    let body = [4, 0, 0x34, 0x12];
+    is_spelled(alloc, 2, &Request::Logoff(request), &body)
+        && is_spelled(alloc, 4, &Request::TreeDisconnect(request), &body)
+        && is_spelled(alloc, 0xc, &Request::Cancel(request), &body)
+        && is_spelled(alloc, 0xd, &Request::Echo(request), &body)
 }
 
 #[test]
-fn requests_without_fields(rt: HostRuntime) {
+fn other_requests(rt: HostRuntime) {
     let alloc = rt.alloc();
-    let request = ReservedRequest { reserved: 0x1234 };
-    let body = [4, 0, 0x34, 0x12];
-    assert!(rt; is_spelled(alloc, 2, &Request::Logoff(request), &body));
-    assert!(rt; is_spelled(alloc, 4, &Request::TreeDisconnect(request), &body));
-    assert!(rt; is_spelled(alloc, 0xc, &Request::Cancel(request), &body));
-    assert!(rt; is_spelled(alloc, 0xd, &Request::Echo(request), &body));
+    let are_spelled = spells_close_flush_and_read(alloc)
+        && spells_write_and_session_setup(alloc)
+        && spells_query_and_set_info(alloc)
+        && spells_reserved(alloc);
+    assert!(rt; are_spelled);
 }

@@ -24,11 +24,20 @@ fn compared(left: &[u8], right: &[u8]) -> Option<(Ordering, bool)> {
     Some((compare_folded(left, right), same_name(left, right)))
 }
 
+/// A name as a key.
+fn folded(name: &[u8]) -> Option<FoldedName> {
+    match Units::of(name) {
+        Some(name) => FoldedName::of(name),
+        None => None,
+    }
+}
+
 /// The order of two names as keys.
 fn ordered(left: &[u8], right: &[u8]) -> Option<Ordering> {
-    let left = FoldedName::of(Units::of(left)?)?;
-    let right = FoldedName::of(Units::of(right)?)?;
-    Some(left.cmp(&right))
+    match (folded(left), folded(right)) {
+        (Some(left), Some(right)) => Some(left.cmp(&right)),
+        _ => None,
+    }
 }
 
 #[test]
@@ -47,7 +56,9 @@ fn compares_folded(rt: HostRuntime) {
 #[test]
 fn a_key_has_255_units_at_most(rt: HostRuntime) {
     let bytes = [0x62u8; 512];
-    let longest = Units::of(&bytes[..510]).and_then(FoldedName::of);
-    assert_eq!(rt; longest.map(|name| name.len()), Some(255));
-    assert!(rt; Units::of(&bytes).and_then(FoldedName::of).is_none());
+    let length = match folded(&bytes[..510]) {
+        Some(name) => name.len(),
+        None => 0,
+    };
+    assert!(rt; length == 255 && folded(&bytes).is_none());
 }
