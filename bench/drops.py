@@ -1,7 +1,7 @@
 """Times what another client waits for, over TCP, where the share drops what a client is owed.
 
 A client sends READs of 65,536 bytes in one piece: 511 are answered by 33,531,820 bytes, which it may be owed; 560, as
-many as fit into a piece, by more than 33,554,432, which it may not. READs of 524,288 bytes are lent to the share one frame
+many as are lent at once, by more than 33,554,432, which it may not. READs of 524,288 bytes are lent to the share one frame
 at a time: 63 of them, and 560, by MessageIds that the client guesses. The program is stopped while the piece, the reset and
 an ECHO of two other clients come, one that came before it and one that came behind, so that they are there at one time. What is timed is from when the program goes on to when both ECHOs are answered, and the program's own processor
 time meanwhile, with the system's part in it. In the last row the program may have 24 MiB beside those of its start.
@@ -20,7 +20,7 @@ from tests.smb.frames import charge_of, create, echoes, negotiate, read, session
 from tests.smb.program import addresses_of, memory_of, Program
 
 ROOM, TIMES = 24 << 20, 30
-# How many READs are answered by what may be owed, and how many fit into a piece.
+# How many READs are answered by what may be owed, and how many are lent at once.
 MAY_BE_OWED, IN_A_PIECE = 511, 560
 # The most bytes of a READ in dialect 2.1, and how many of these are asked for in a piece.
 AT_ONCE, LONG_READS = 524_288, 63

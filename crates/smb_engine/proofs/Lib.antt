@@ -19,3 +19,5 @@ pub mod Endings
 pub mod Observed
 pub mod HeardEnds
 pub mod WrongEndings
+pub mod Sealing
+pub mod Knowing

@@ -13,3 +13,4 @@ pub mod InPlace
 pub mod SoFar
 pub mod Parts
 pub mod Observed
+pub mod Ahead

@@ -6,6 +6,7 @@ ghost use Rattle.smb_signing.specs.declared.key.Key.{Key};
 ghost use Rattle.smb_head.specs.Headers.{header_of};
 ghost use Rattle.smb_head.specs.Replies.{Reply, rounded_up};
 ghost use Rattle.smb_head.specs.Placed.{placed, replies_written};
+ghost use Rattle.smb_head.specs.Sealed.{AreApart, sealed};
 ghost use Rattle.smb_request.specs.Request.{performed};
 ghost use Rattle.std.specs.Bool.{OnTrue, OnFalse};
 ghost use Rattle.smb_wire.specs.Limits.{longest_response};
@@ -14,6 +15,7 @@ ghost use Rattle.smb_request.specs.Negotiate.{negotiate_answer};
 ghost use Rattle.smb_request.specs.Smb1.{reply_to_smb1};
 ghost use Rattle.smb_engine.specs.Run.{one_performed, smb1_step, chain_step, payload_step, ending_of};
 ghost use Rattle.smb_engine.specs.Parts.{longest_reply, reply_to};
+ghost use Rattle.smb_engine.specs.Ahead.{IsKnownOf};
 ghost use Rattle.smb_engine.specs.Held.{StoppedAfter};
 ghost use Rattle.smb_request.specs.Held.{is_performed};
 ghost use Rattle.smb_engine.specs.Output.{output_bytes, reply_frame};
@@ -28,15 +30,17 @@ use super::connection::Connection;
 use super::ending::fault_ending;
 use super::fault::CutShort;
 use super::reporting::{note_subject, report, report_smb1};
+use super::unsealed::Unsealed;
 use bitflags::Flags;
 use smb_body::{Smb1Dialects, read_smb1_negotiate};
 use smb_frame::{close_frame, open_frame};
-use smb_head::{Header, HeaderFlags, ReplyWriter, read_chain};
+use smb_head::{Header, HeaderFlags, ReplyWriter, Unsigned, read_chain};
 use smb_opens::Opens;
 use smb_peers::{Ending, Observer};
 use smb_request::smb1::Smb1Answer;
 use smb_request::{Answered, Context, NoReply, Server, smb1};
 use smb_session::{Authenticator, Window};
+use smb_signing::KnownSignature;
 use smb_tree::Tree;
 use smb_wire::limits::MOST_REQUESTS;
 
@@ -91,12 +95,14 @@ fn perform_one<A: Authenticator + Drop, T: Tree + Drop, O: Opens + Drop, W: Obse
     arrival: Arrival,
     connection: &mut Connection,
     progress: &mut ChainProgress,
+    known: Option<KnownSignature>,
     header: &Header,
     request: &[u8],
     out: &mut Vec<u8>,
     observer: &mut W,
 ) -> Result<(), NoReply>
     requires header { header.now ≡ header_of request.now }
+    requires known { IsKnownOf request.now known }
     requires order { progress.old.writer.base ≤ progress.old.writer.last }
     requires within { progress.old.writer.last ≤ length out.old.items }
     requires room { rounded_up (length out.old.items - progress.old.writer.base) + longest_response < 2 ^ 24 }
@@ -141,6 +147,7 @@ fn perform_one<A: Authenticator + Drop, T: Tree + Drop, O: Opens + Drop, W: Obse
         &mut connection.dialect,
         &mut progress.context,
         signing,
+        known,
         header,
         request,
         out,
@@ -195,6 +202,28 @@ fn end_frame(start: usize, out: &mut Vec<u8>)
     }
 }
 
+/// Ends the frame that begins at `start`, of the replies of a writer: closes it, and has those that have a key signed
+/// later; or takes it off where there are none.
+fn end_chain(start: usize, writer: &ReplyWriter, unsigned: &mut Unsigned, out: &mut Vec<u8>)
+    requires within { start + 4 ≤ length out.old.items }
+    requires fits { length out.old.items < start + 4 + 2 ^ 24 }
+    requires last { writer.now.last ≤ length out.old.items }
+    requires base { writer.now.base ≡ start + 4 }
+    requires apart { AreApart 0 unsigned.old start }
+    ensures framed { (connection : ℕ) (before : List ℕ) (replies : List Reply) → start ≡ length before →
+        writer.now ≡ placed (before ++ replicate 4 0) replies → out.old.items ≡ replies_written (before ++ replicate 4 0) replies →
+        sealed unsigned.new out.new.items ≡ sealed unsigned.old before ++ flat_map output_bytes (reply_frame connection (joined_replies replies)) }
+    ensures len { length out.new.items ≤ length out.old.items }
+    ensures apart { AreApart 0 unsigned.new (length out.new.items) }
+{
+    if out.len() == start + 4 {
+        out.truncate(start);
+    } else {
+        close_frame(start, out);
+        writer.put_off(unsigned, out);
+    }
+}
+
 /// Performs a payload that is a chain, adds the frame of its replies to `out`, where there are any, and tells the
 /// number of its requests; None where it ends the connection. At most so many requests are performed; an error says how
 /// many. Where the payload is not performed whole `out` is as it was.
@@ -204,17 +233,23 @@ fn chain_payload<A: Authenticator + Drop, T: Tree + Drop, O: Opens + Drop, W: Ob
     arrival: Arrival,
     connection: &mut Connection,
     payload: &[u8],
+    known: Option<KnownSignature>,
     most: usize,
+    unsigned: &mut Unsigned,
     out: &mut Vec<u8>,
     observer: &mut W,
 ) -> Result<Option<usize>, CutShort>
+    requires apart { AreApart 0 unsigned.old (length out.old.items) }
+    requires known { IsKnownOf payload.now known }
     ensures ok { IfOk result (λ count.
-        record { server = server.new; connection = connection.new; stays_open = is_some count; out = out.new.items }
-        ≡ step_behind output_bytes out.old.items (chain_step A.meaning arrival server.old connection.old payload.now)) }
+        record { server = server.new; connection = connection.new; stays_open = is_some count; out = sealed unsigned.new out.new.items }
+        ≡ step_behind output_bytes (sealed unsigned.old out.old.items) (chain_step A.meaning arrival server.old connection.old payload.now)) }
     ensures count { IfOk result (λ count. IfSome count (λ n. n ≡ length
         (chain_step A.meaning arrival server.old connection.old payload.now).requests)) }
     ensures len { OnOk result (length out.new.items ≤ length out.old.items + (4 + longest_reply)) }
+    ensures apart { AreApart 0 unsigned.new (length out.new.items) }
     ensures kept { OnErr result (out.new.items ≡ out.old.items) }
+    ensures put_off { OnErr result (unsigned.new ≡ unsigned.old) }
     ensures err { IfErr result (λ ran_out. StoppedAfter server.old
         (chain_step A.meaning arrival server.old connection.old payload.now) ran_out.done server.new) }
     ensures observed { OnOk result (Keeping (W.keeps observer.old) (W.keeps observer.new)
@@ -237,6 +272,7 @@ fn chain_payload<A: Authenticator + Drop, T: Tree + Drop, O: Opens + Drop, W: Ob
     let Ok(start) = open_frame(out) else {
         return Err(CutShort { done: 0 });
     };
+    let known = if chain.len() == 1 { known } else { None };
     let mut progress = ChainProgress {
         context: Context::first(),
         writer: ReplyWriter::begin(out),
@@ -252,6 +288,7 @@ fn chain_payload<A: Authenticator + Drop, T: Tree + Drop, O: Opens + Drop, W: Ob
             arrival,
             connection,
             &mut progress,
+            known,
             &header,
             request,
             out,
@@ -265,8 +302,7 @@ fn chain_payload<A: Authenticator + Drop, T: Tree + Drop, O: Opens + Drop, W: Ob
             }
         }
     }
-    progress.writer.sign(out);
-    end_frame(start, out);
+    end_chain(start, &progress.writer, unsigned, out);
     let count = chain.len();
     Ok(Some(count))
 }
@@ -340,32 +376,31 @@ fn first_payload<A: Authenticator + Drop, T: Tree + Drop, O: Opens + Drop, W: Ob
     Ok(Some(1))
 }
 
-/// Performs a payload, adds the frame of its replies to `out`, where there are any, and returns the number of its
-/// requests; None where it ends the connection. Of a chain at most so many requests are performed; an error says how
-/// many. Where the payload is not performed whole `out` is as it was.
+/// Performs a payload as [`add_payload`] does: its replies are not signed yet.
 #[tactic(auto, unfolding(crate::specs::Run::payload_step))]
-pub(crate) fn perform_payload<
-    A: Authenticator + Drop,
-    T: Tree + Drop,
-    O: Opens + Drop,
-    W: Observer,
->(
+fn perform_payload<A: Authenticator + Drop, T: Tree + Drop, O: Opens + Drop, W: Observer>(
     server: &mut Server<A, T, O>,
     arrival: Arrival,
     connection: &mut Connection,
     payload: &[u8],
+    known: Option<KnownSignature>,
     most: usize,
+    unsigned: &mut Unsigned,
     out: &mut Vec<u8>,
     observer: &mut W,
 ) -> Result<Option<usize>, CutShort>
+    requires apart { AreApart 0 unsigned.old (length out.old.items) }
+    requires known { IsKnownOf payload.now known }
     ensures ok { IfOk result (λ count.
-        record { server = server.new; connection = connection.new; stays_open = is_some count; out = out.new.items }
-        ≡ step_behind output_bytes out.old.items
+        record { server = server.new; connection = connection.new; stays_open = is_some count; out = sealed unsigned.new out.new.items }
+        ≡ step_behind output_bytes (sealed unsigned.old out.old.items)
         (payload_step A.meaning arrival server.old connection.old payload.now)) }
     ensures count { IfOk result (λ count. IfSome count (λ n. n ≡ length
         (payload_step A.meaning arrival server.old connection.old payload.now).requests)) }
     ensures len { OnOk result (length out.new.items ≤ length out.old.items + (4 + longest_reply)) }
+    ensures apart { AreApart 0 unsigned.new (length out.new.items) }
     ensures kept { OnErr result (out.new.items ≡ out.old.items) }
+    ensures put_off { OnErr result (unsigned.new ≡ unsigned.old) }
     ensures err { IfErr result (λ ran_out. StoppedAfter server.old
         (payload_step A.meaning arrival server.old connection.old payload.now) ran_out.done server.new) }
     ensures observed { OnOk result (Keeping (W.keeps observer.old) (W.keeps observer.new)
@@ -378,11 +413,55 @@ pub(crate) fn perform_payload<
         read_smb1_negotiate(payload)
     };
     match listed {
-        None => chain_payload(server, arrival, connection, payload, most, out, observer),
+        None => {
+            chain_payload(
+                server, arrival, connection, payload, known, most, unsigned, out, observer,
+            )
+        }
         Some(dialects) => {
             first_payload(
                 server, arrival, connection, payload, dialects, out, observer,
             )
         }
     }
+}
+
+/// Performs a payload, adds the frame of its replies to `out`, where there are any, and returns the number of its
+/// requests; None where it ends the connection. Of a chain at most so many requests are performed; an error says how
+/// many. Where the payload is not performed whole `out` is as it was.
+pub(crate) fn add_payload<A: Authenticator + Drop, T: Tree + Drop, O: Opens + Drop, W: Observer>(
+    server: &mut Server<A, T, O>,
+    arrival: Arrival,
+    connection: &mut Connection,
+    payload: &[u8],
+    known: Option<KnownSignature>,
+    most: usize,
+    out: &mut Unsealed,
+    observer: &mut W,
+) -> Result<Option<usize>, CutShort>
+    requires { IsKnownOf payload.now known }
+    ensures ok { IfOk result (λ count.
+        record { server = server.new; connection = connection.new; stays_open = is_some count; out = out.new }
+        ≡ step_behind output_bytes out.old (payload_step A.meaning arrival server.old connection.old payload.now)) }
+    ensures count { IfOk result (λ count. IfSome count (λ n. n ≡ length
+        (payload_step A.meaning arrival server.old connection.old payload.now).requests)) }
+    ensures len { OnOk result (length out.new ≤ length out.old + (4 + longest_reply)) }
+    ensures kept { OnErr result (out.new ≡ out.old) }
+    ensures err { IfErr result (λ ran_out. StoppedAfter server.old
+        (payload_step A.meaning arrival server.old connection.old payload.now) ran_out.done server.new) }
+    ensures observed { OnOk result (Keeping (W.keeps observer.old) (W.keeps observer.new)
+        (W.observed observer.new ≡ W.observed observer.old ++ payload_observed A.meaning arrival server.old connection.old payload.now)) }
+    ensures known { server.new.sessions.table.connections ≡ server.old.sessions.table.connections }
+{
+    perform_payload(
+        server,
+        arrival,
+        connection,
+        payload,
+        known,
+        most,
+        &mut out.unsigned,
+        &mut out.bytes,
+        observer,
+    )
 }

@@ -49,6 +49,7 @@
 #![tactic(auto)]
 
 mod admission;
+mod ahead;
 mod arrival;
 mod chain;
 mod connection;
@@ -61,6 +62,7 @@ mod reporting;
 mod session_keys;
 mod share;
 mod stream;
+mod unsealed;
 
 pub use fault::{RunFault, ServeFault};
 pub use laws::laws_of_shares;

@@ -4,13 +4,14 @@ ghost use Rattle.std.specs.Prelude.{◌≡◌, ◌++◌, ◌∷◌, [], OnOk, On
 ghost use Rattle.std.specs.List.{flat_map};
 ghost use Rattle.smb_engine.specs.Output.{output_bytes, end_of, reply_frame};
 
+use super::unsealed::Unsealed;
 use smb_peers::Answer;
 use std::alloc::{AllocError, Global};
 use std::mem;
 
 /// Where the outputs of a piece go: answers in order, or the bytes of one connection's frames.
 ///
-/// A frame is written into a vector that the sink hands out, behind what it holds, and is given back with it: so the
+/// A frame is written into a vector that the sink hands out, behind what it holds, and is given back with it: the
 /// bytes of one connection are written straight where they are sent from, and an answer's into a vector of its own.
 pub(crate) trait Sink {
     ghost use Rattle.std.specs.Prelude.{ℕ, List};
@@ -32,19 +33,19 @@ pub(crate) trait Sink {
         ensures { result ≡ length (content self.now) };
 
     /// Hands out the vector for a frame, with the bytes that it holds. It takes no memory.
-    fn take_bytes(&mut self, alloc: Global) -> Vec<u8>
-        ensures lent { lends self.new result.items }
-        ensures content { with_bytes self.new result.items ≡ content self.old };
+    fn take_bytes(&mut self, alloc: Global) -> Unsealed
+        ensures lent { lends self.new result }
+        ensures content { with_bytes self.new result ≡ content self.old };
 
     /// Takes the vector back with the frame of a payload's replies behind what it held, where there are any.
-    fn give_frame(&mut self, connection: u64, bytes: Vec<u8>) -> Result<(), AllocError>
-        ensures ok { (before replies : List ℕ) → lends self.old before → bytes.items ≡ before ++ flat_map output_bytes (reply_frame connection replies) →
+    fn give_frame(&mut self, connection: u64, bytes: Unsealed) -> Result<(), AllocError>
+        ensures ok { (before replies : List ℕ) → lends self.old before → bytes ≡ before ++ flat_map output_bytes (reply_frame connection replies) →
             OnOk result (content self.new ≡ with_bytes self.old before ++ flat_map hears (reply_frame connection replies)) }
         ensures err { (before : List ℕ) → lends self.old before → OnErr result (content self.new ≡ with_bytes self.old before) };
 
     /// Takes the vector back as it was lent out.
-    fn give_back(&mut self, bytes: Vec<u8>)
-        ensures { (before : List ℕ) → lends self.old before → bytes.items ≡ before → content self.new ≡ with_bytes self.old before };
+    fn give_back(&mut self, bytes: Unsealed)
+        ensures { (before : List ℕ) → lends self.old before → bytes ≡ before → content self.new ≡ with_bytes self.old before };
 
     /// Adds the end of a connection.
     fn put_end(&mut self, connection: u64) -> Result<(), AllocError>
@@ -73,20 +74,20 @@ impl Sink for Vec<Answer> {
         self.len()
     }
 
-    fn take_bytes(&mut self, alloc: Global) -> Vec<u8> {
+    fn take_bytes(&mut self, alloc: Global) -> Unsealed {
         let _ = &self;
-        Vec::new(alloc)
+        Unsealed::new(Vec::new(alloc))
     }
 
-    fn give_frame(&mut self, connection: u64, bytes: Vec<u8>) -> Result<(), AllocError> {
-        if bytes.is_empty() {
+    fn give_frame(&mut self, connection: u64, bytes: Unsealed) -> Result<(), AllocError> {
+        if bytes.len() == 0 {
             return Ok(());
         }
-        self.push(Answer::Frame(connection, bytes))?;
+        self.push(Answer::Frame(connection, bytes.into_bytes()))?;
         Ok(())
     }
 
-    fn give_back(&mut self, _bytes: Vec<u8>) {}
+    fn give_back(&mut self, _bytes: Unsealed) {}
 
     fn put_end(&mut self, connection: u64) -> Result<(), AllocError> {
         self.push(Answer::End(connection))?;
@@ -98,11 +99,11 @@ impl Sink for Vec<Answer> {
     }
 }
 
-impl Sink for Vec<u8> {
+impl Sink for Unsealed {
     ghost use Rattle.std.specs.Prelude.{map, ⊤};
     ghost use Rattle.smb_engine.specs.Sink.{byte, hears_bytes};
 
-    ghost content = { λ bytes. map byte bytes.items };
+    ghost content = { λ bytes. map byte bytes };
 
     ghost hears = { hears_bytes };
 
@@ -114,16 +115,16 @@ impl Sink for Vec<u8> {
         self.len()
     }
 
-    fn take_bytes(&mut self, alloc: Global) -> Vec<u8> {
-        mem::replace(self, Vec::new(alloc))
+    fn take_bytes(&mut self, alloc: Global) -> Unsealed {
+        mem::replace(self, Unsealed::new(Vec::new(alloc)))
     }
 
-    fn give_frame(&mut self, _connection: u64, bytes: Vec<u8>) -> Result<(), AllocError> {
+    fn give_frame(&mut self, _connection: u64, bytes: Unsealed) -> Result<(), AllocError> {
         *self = bytes;
         Ok(())
     }
 
-    fn give_back(&mut self, bytes: Vec<u8>) {
+    fn give_back(&mut self, bytes: Unsealed) {
         *self = bytes;
     }
 

@@ -56,6 +56,11 @@ impl SessionKeys {
         }
     }
 
+    /// Whether there are any.
+    pub(crate) fn are_there(&self) -> bool {
+        !self.list.is_empty()
+    }
+
     /// The key of a session; None where it is none of these.
     fn key_of(&self, session_id: u64) -> Option<Key>
         ensures { result ≡ kept_key self.now session_id }

@@ -23,6 +23,7 @@ use super::connection::{ConnectionStream, add_connection, new_stream, remove_str
 use super::fault::{CutShort, RunFault, ServeFault};
 use super::output::Sink;
 use super::stream::take_piece;
+use super::unsealed::Unsealed;
 use smb_opens::Opens;
 use smb_peers::{Answer, Event, Fate, Observer, Usage};
 use smb_reason::Reason;
@@ -32,8 +33,8 @@ use smb_tree::{KeptContent, Tree};
 use smb_wire::Dialect;
 use std::alloc::Global;
 use std::collections::BTreeMap;
-use std::fmt;
 use std::marker::Model;
+use std::{fmt, mem};
 
 /// A piece has fewer requests than this.
 const ALL_REQUESTS: usize = usize::MAX;
@@ -241,7 +242,16 @@ impl<A: Authenticator + Drop, T: Tree + Drop, O: Opens + Drop> Share<A, T, O> {
         ensures good { GoodState self.new }
     {
         let _ = &self.streams;
-        let taken = self.take(connection, moment, piece, ALL_REQUESTS, out, observer);
+        let mut bytes = Unsealed::new(mem::replace(out, Vec::new(self.allocator())));
+        let taken = self.take(
+            connection,
+            moment,
+            piece,
+            ALL_REQUESTS,
+            &mut bytes,
+            observer,
+        );
+        *out = bytes.into_bytes();
         self.good();
         match taken {
             Ok(fate) => Ok(fate),
@@ -314,7 +324,7 @@ impl<A: Authenticator + Drop, T: Tree + Drop, O: Opens + Drop> Share<A, T, O> {
         ensures done { OnTrue result (EventOutOfMemory A.meaning self.old (brings connection moment piece.now) done self.new) }
         ensures good { GoodState self.new }
     {
-        let mut replies: Vec<u8> = Vec::new(self.allocator());
+        let mut replies = Unsealed::new(Vec::new(self.allocator()));
         match self.take(connection, moment, piece, done, &mut replies, &mut ()) {
             Ok(_) => {
                 self.ended(connection);

@@ -8,14 +8,16 @@ ghost use Rattle.smb_frame.specs.Reading.{first, fault_of, payloads};
 ghost use Rattle.smb_engine.specs.Run.{payload_step, payload_steps, piece_step};
 ghost use Rattle.smb_engine.specs.Held.{Waits, IsPieceHeld, StoppedAfter};
 ghost use Rattle.smb_engine.specs.InPlace.{step_behind};
+ghost use Rattle.smb_engine.specs.Ahead.{IsKnownOf};
 ghost use Rattle.smb_engine.specs.SoFar.{AreTaken};
 ghost use Rattle.smb_engine.specs.Output.{AreShort};
 ghost use Rattle.smb_peers.specs.Record.{Keeping};
 ghost use Rattle.smb_peers.specs.declared.ending.Ending.TheVariants.{Frame};
 ghost use Rattle.smb_engine.specs.Observed.{ending_observed, payload_observed, payloads_observed, piece_observed};
 
+use super::ahead::Ahead;
 use super::arrival::Arrival;
-use super::chain::perform_payload;
+use super::chain::add_payload;
 use super::connection::{Connection, ConnectionStream};
 use super::fault::CutShort;
 use super::output::Sink;
@@ -24,6 +26,7 @@ use smb_opens::Opens;
 use smb_peers::{Ending, Observer};
 use smb_request::Server;
 use smb_session::Authenticator;
+use smb_signing::KnownSignature;
 use smb_tree::Tree;
 use smb_wire::limits::LONGEST_PAYLOAD;
 
@@ -35,10 +38,12 @@ fn put_payload<A: Authenticator + Drop, T: Tree + Drop, O: Opens + Drop, K: Sink
     arrival: Arrival,
     connection: &mut Connection,
     payload: &[u8],
+    known: Option<KnownSignature>,
     most: usize,
     out: &mut K,
     observer: &mut W,
 ) -> Result<Option<usize>, CutShort>
+    requires { IsKnownOf payload.now known }
     ensures ok { IfOk result (λ count.
         record { server = server.new; connection = connection.new; stays_open = is_some count; out = K.content out.new }
         ≡ step_behind K.hears (K.content out.old)
@@ -54,8 +59,8 @@ fn put_payload<A: Authenticator + Drop, T: Tree + Drop, O: Opens + Drop, K: Sink
     ensures known { server.new.sessions.table.connections ≡ server.old.sessions.table.connections }
 {
     let mut bytes = out.take_bytes(server.allocator());
-    match perform_payload(
-        server, arrival, connection, payload, most, &mut bytes, observer,
+    match add_payload(
+        server, arrival, connection, payload, known, most, &mut bytes, observer,
     ) {
         Ok(Some(count)) => {
             let Ok(()) = out.give_frame(arrival.connection_id, bytes) else {
@@ -111,6 +116,7 @@ fn take_payloads<A: Authenticator + Drop, T: Tree + Drop, O: Opens + Drop, K: Si
             arrival,
             connection,
             payload,
+            None,
             most - done,
             out,
             observer,
@@ -158,15 +164,18 @@ fn take_frames<A: Authenticator + Drop, T: Tree + Drop, O: Opens + Drop, K: Sink
 {
     let mut done = 0;
     let mut used = 0;
+    let mut ahead = Ahead::none();
     while let Some(payload) = first_payload(LONGEST_PAYLOAD, &bytes[used..]) {
         if done >= most {
             return Err(CutShort { done });
         }
+        let known = ahead.take_of(server, connection, arrival.connection_id, &bytes[used..]);
         match put_payload(
             server,
             arrival,
             connection,
             payload,
+            known,
             most - done,
             out,
             observer,

@@ -8,3 +8,4 @@ pub mod Placing
 pub mod Signing
 pub mod Spelled
 pub mod Firsts
+pub mod Sealing

@@ -11,7 +11,6 @@ use Rattle.smb_head.specs.Replies.{Reply, reply_bytes, rounded_up, followed_repl
 use Rattle.smb_head.specs.Placed.{keys_from, placed}
 use Rattle.smb_head.specs.Parts.{padded_length, AreRising, end_before}
 use Rattle.smb_head.proofs.Joining.{length-followed, last_long, followed_long, last_after}
-use Rattle.smb_head.proofs.Placing.{kept_once}
 
 -- replies that have no key
 pub without_keys : (replies : List Reply) → AllByRecursion HasNoKey replies → joined_replies replies ≡ unsigned_replies replies
@@ -57,12 +56,21 @@ length-signed_by true key message e =
     )
 length-signed_by false key message e = refl
 
-length-signed : (key message : List ℕ) → length (signed key message) ≡ length message
+pub length-signed : (key message : List ℕ) → length (signed key message) ≡ length message
 length-signed key message = length-signed_by (nat_le 64 (length message)) key message refl
 
 pub length-signed_if : (key : Option Key) (message : List ℕ) → length (signed_if key message) ≡ length message
 length-signed_if None message = refl
 length-signed_if (Some key) message = length-signed key.bytes message
+
+-- replies are as long when they are signed
+pub length-joined : (replies : List Reply) → length (joined_replies replies) ≡ length (unsigned_replies replies)
+unfolding joined_replies unsigned_replies
+length-joined [] = refl
+length-joined (reply ∷ replies) =
+    let message : List ℕ = first_message reply replies in
+    ap length (joined_cons reply replies) ∙ length-append (signed_if reply.key message) (joined_replies replies)
+    ∙ omega (arith, length-signed_if reply.key message, length-joined replies, length-append message (unsigned_replies replies), ap length (unsigned_cons reply replies))
 
 -- the messages that are sent
 signed_messages : List Reply → List (List ℕ)
@@ -118,16 +126,6 @@ ends_within from size (next ∷ keys) r = rising_ends next.place size keys r.1
 pub rising_first : (from size : ℕ) (keys : List KeyedReply) (first : KeyedReply) (others : List KeyedReply) → keys ≡ first ∷ others → AreRising from keys size →
     (from ≤ first.place) × AreRising first.place others size
 rising_first from size keys first others k r = rw k at r
-
--- a reply is signed behind what is kept
-pub kept_signed : (base size : ℕ) (old new whole more : List ℕ) (keys : List KeyedReply) (first : KeyedReply) (others : List KeyedReply) → keys ≡ first ∷ others →
-    size ≡ length old → length new ≡ size → new ≡ take first.place old ++ more → AreRising base keys size × (take base old ≡ take base whole) →
-    AreRising base others (length new) × (take base new ≡ take base whole)
-kept_signed base size old new whole more keys first others k s l n h =
-    let parts = rising_first base size keys first others k h.0 in
-    let low : base ≤ first.place = parts.0 in
-    let high : first.place ≤ length old = omega (arith, s, rising_ends first.place size others parts.1) in
-    (rw l (rising_from first.place base size others low parts.1), kept_once base first.place old new more low high n ∙ h.1)
 
 -- where replies begin, with one more
 last_place_more : (first : Reply) (replies : List Reply) (reply : Reply) → last_place (first ∷ (replies ++ reply ∷ [])) ≡ padded_length first + last_place (replies ++ reply ∷ [])

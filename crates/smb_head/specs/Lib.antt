@@ -4,3 +4,4 @@ pub mod Chains
 pub mod Replies
 pub mod Placed
 pub mod Parts
+pub mod Sealed

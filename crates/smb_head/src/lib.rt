@@ -9,15 +9,16 @@
 //!
 //! A [`ReplyChain`] takes replies one by one and gives the payload that joins them, by
 //! `specs/Replies.antt`: each but the last padded, its NextCommand the distance to the next. A [`ReplyWriter`]
-//! joins them where they are sent from, and signs those that have a key, once all are joined: each with its
-//! padding, in place. That what is sent bears the signatures is the contract of [`laws_of_replies`]. This layer
-//! knows nothing of bodies.
+//! joins them where they are sent from. Those that have a key are signed there, each with its padding: once all are
+//! joined they are [`Unsigned`] messages, of which four at a time are signed. That what is sent bears the signatures is
+//! the contract of [`laws_of_replies`]. This layer knows nothing of bodies.
 #![tactic(auto)]
 
 mod chain;
 mod fault;
 mod header;
 mod reply;
+mod unsigned;
 mod writer;
 
 pub use chain::{Chain, laws_of_chains, read_chain};
@@ -26,4 +27,5 @@ pub use header::{
     Header, HeaderFlags, each_header_fits, laws_of_headers, read_header, write_header,
 };
 pub use reply::{ReplyChain, laws_of_replies};
+pub use unsigned::{Unsigned, UnsignedMessage};
 pub use writer::{OpenReply, ReplyWriter};

@@ -8,10 +8,12 @@ ghost use Rattle.smb_head.specs.Headers.{fields, protocol_id};
 ghost use Rattle.smb_head.specs.Replies.{Reply, joined_replies, reply_bytes, rounded_up, signed_if, unsigned_replies};
 ghost use Rattle.smb_head.specs.Placed.{keys_from, placed, replies_written, with_open_reply, open_place};
 ghost use Rattle.smb_head.specs.Parts.{AreRising, end_before};
+ghost use Rattle.smb_head.specs.Sealed.{AreApart, sealed};
 
 use super::fault::HeadFault;
 use super::header::Header;
 use super::reply::{rounded_up, set_next};
+use super::unsigned::Unsigned;
 use arrayvec::ArrayVec;
 use smb_signing::Key;
 use smb_wire::limits::MOST_REQUESTS;
@@ -92,7 +94,7 @@ fn header_front(header: &Header) -> [u8; 48]
 }
 
 /// Writes bytes over those from `place` on.
-fn set_bytes(bytes: &[u8], place: usize, out: &mut Vec<u8>)
+pub(crate) fn set_bytes(bytes: &[u8], place: usize, out: &mut Vec<u8>)
     requires { place + length bytes.now ≤ length out.old.items }
     ensures bytes { out.new.items ≡ take place out.old.items ++ (bytes.now ++ drop (place + length bytes.now) out.old.items) }
     ensures len { length out.new.items ≡ length out.old.items }
@@ -132,31 +134,20 @@ fn end_before(others: &[KeyedReply], out: &Vec<u8>) -> usize
     }
 }
 
-/// Signs the reply that ends at `end`, where it has a key.
-fn sign_reply(reply: KeyedReply, end: usize, out: &mut Vec<u8>)
-    requires order { reply.place ≤ end }
-    requires within { end ≤ length out.old.items }
-    ensures signed { out.new.items ≡ take reply.place out.old.items
-        ++ (signed_if reply.key (take (end - reply.place) (drop reply.place out.old.items)) ++ drop end out.old.items) }
-    ensures len { length out.new.items ≡ length out.old.items }
-{
-    if let Some(key) = reply.key {
-        key.sign(&mut out[reply.place..end]);
-    }
-}
-
-/// Signs each of some replies that has a key: one ends where the next begins, and the last where `out` does.
-fn sign_replies(replies: &[KeyedReply], out: &mut Vec<u8>)
-    requires { AreRising 0 replies.now (length out.old.items) }
+/// Has each of some replies that has a key signed later: one ends where the next begins, and the last where `out` does.
+fn put_off_replies(replies: &[KeyedReply], unsigned: &mut Unsigned, out: &mut Vec<u8>)
+    requires rising { AreRising 0 replies.now (length out.old.items) }
+    requires apart { AreApart 0 unsigned.old (end_before replies.now (length out.old.items)) }
     ensures signed { (before : List ℕ) (others : List Reply) → replies.now ≡ keys_from (length before) others →
-        out.old.items ≡ before ++ unsigned_replies others → out.new.items ≡ before ++ joined_replies others }
+        sealed unsigned.old out.old.items ≡ before ++ unsigned_replies others →
+        sealed unsigned.new out.new.items ≡ before ++ joined_replies others }
+    ensures apart { AreApart 0 unsigned.new (length out.new.items) }
     ensures len { length out.new.items ≡ length out.old.items }
-    ensures kept { (base : ℕ) → AreRising base replies.now (length out.old.items) → take base out.new.items ≡ take base out.old.items }
 {
     let mut replies = replies;
     while let Some((reply, others)) = replies.split_first() {
         let end = end_before(others, out);
-        sign_reply(*reply, end, out);
+        unsigned.put_off(reply.key, reply.place, end, out);
         replies = others;
     }
 }
@@ -258,17 +249,19 @@ impl ReplyWriter {
         self.has_keys |= key.is_some();
     }
 
-    /// Writes into each reply of `out` that has a key its signature, of its header, its body and its padding. It is called
-    /// once, when all replies are closed. It takes no memory.
-    pub fn sign(&self, out: &mut Vec<u8>)
-        requires { self.now.last ≤ length out.old.items }
-        ensures signed { (before : List ℕ) (replies : List Reply) → self.now ≡ placed before replies → out.old.items ≡ replies_written before replies →
-            out.new.items ≡ before ++ joined_replies replies }
+    /// Has each reply of `out` that has a key signed later, by [`Unsigned::sign`]: its header, its body and its padding.
+    /// It is called once, when all replies are closed. It takes no memory.
+    pub fn put_off(&self, unsigned: &mut Unsigned, out: &mut Vec<u8>)
+        requires within { self.now.last ≤ length out.old.items }
+        requires apart { AreApart 0 unsigned.old self.now.base }
+        ensures signed { (before : List ℕ) (replies : List Reply) → self.now ≡ placed before replies →
+            sealed unsigned.old out.old.items ≡ before ++ unsigned_replies replies →
+            sealed unsigned.new out.new.items ≡ before ++ joined_replies replies }
+        ensures apart { self.now.base ≤ length out.old.items → AreApart 0 unsigned.new (length out.new.items) }
         ensures len { length out.new.items ≡ length out.old.items }
-        ensures kept { take self.now.base out.new.items ≡ take self.now.base out.old.items }
     {
         if self.has_keys {
-            sign_replies(self.keys.as_slice(), out);
+            put_off_replies(self.keys.as_slice(), unsigned, out);
         }
     }
 

@@ -15,8 +15,8 @@ use std::{io, mem};
 /// The version of the program: a recording names it, and `--version` prints it.
 pub const VERSION: &str = "1.0.0";
 
-/// How many bytes the line of a piece of 65,536 bytes takes at most.
-const LINE_ROOM: usize = 131_200;
+/// How many bytes the line of a piece of 266,240 bytes takes at most.
+const LINE_ROOM: usize = 532_608;
 
 /// A line for each event, written before the call returns. After a failed write nothing more is written.
 #[derive(Drop)]
@@ -35,7 +35,7 @@ pub struct Recorder<S: Store + Drop> {
 
 impl<S: Store + Drop> Recorder<S> {
     /// Writes to a store. With `settles` what is written is settled before it is answered. Room for a line is made
-    /// first, so that none fails for want of memory while a share is served whose pieces have at most 65,536 bytes.
+    /// first, so that none fails for want of memory while a share is served whose pieces have at most 266,240 bytes.
     pub fn new(alloc: Global, store: S, settles: bool) -> Result<Self, JournalFault> {
         Ok(Recorder {
             store,

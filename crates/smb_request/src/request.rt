@@ -10,6 +10,7 @@ ghost use Rattle.smb_body.specs.Dialects.{dialects_of};
 ghost use Rattle.smb_body.specs.Requests.{request_value, file_id_of};
 ghost use Rattle.smb_session.specs.Negotiate.{best_of};
 ghost use Rattle.smb_session.specs.Table.{knows_session, knows_tree, signing_of};
+ghost use Rattle.smb_signing.specs.Signature.{signature};
 ghost use Rattle.smb_access.specs.Opens.{open_of};
 ghost use Rattle.smb_request.specs.Bodies.{result_step, is_listing, IsReadyAfter};
 ghost use Rattle.smb_request.specs.Held.{is_performed, IsCallOf, asked_value};
@@ -31,6 +32,7 @@ use smb_head::Header;
 use smb_opens::Opens;
 use smb_refusals::{NegotiateRefusal, Refusal, RefusedBy, RequestRefusal};
 use smb_session::{Authenticator, Signing};
+use smb_signing::KnownSignature;
 use smb_tree::Tree;
 use smb_wire::{Command, Dialect};
 
@@ -294,7 +296,8 @@ impl<A: Authenticator + Drop, T: Tree + Drop, O: Opens + Drop> Server<A, T, O> {
     }
 
     /// Performs one request of this header, and adds the body of its response to `out`. CANCEL has no response: None,
-    /// and `out` is as it was. The messages of its session are signed so, as [`signing`](Self::signing) says.
+    /// and `out` is as it was. How the messages of its session are signed is what [`signing`](Self::signing) says; its own
+    /// signature may be known already by some key.
     ///
     /// An error says that an allocation was refused, and whether the request was performed, which then changed the server's state
     /// and the dialect. `context` is as it was, and what was in `out` is kept.
@@ -306,12 +309,14 @@ impl<A: Authenticator + Drop, T: Tree + Drop, O: Opens + Drop> Server<A, T, O> {
         dialect: &mut Option<Dialect>,
         context: &mut Context,
         signing: Option<Signing>,
+        known: Option<KnownSignature>,
         header: &Header,
         request: &[u8],
         out: &mut Vec<u8>,
     ) -> Result<Option<Answered>, NoReply>
         requires header { header.now ≡ header_of request.now }
         requires signing { signing ≡ signing_of self.old.sessions.table connection (request_ids context.old request.now).session_id }
+        requires known { IfSome known (λ k. k.own ≡ signature k.key.bytes request.now) }
         ensures ok { IfOk result (λ r. record { server = self.new; dialect = dialect.new; context = context.new; response = option_map (λ a. answer_held a out.new.items) r }
             ≡ performed_behind out.old.items (performed A.meaning connection moment self.old dialect.old context.old request.now)) }
         ensures none { IfOk result (λ r. IfNone r (out.new.items ≡ out.old.items)) }
@@ -324,7 +329,7 @@ impl<A: Authenticator + Drop, T: Tree + Drop, O: Opens + Drop> Server<A, T, O> {
         ensures kept { take (length out.old.items) out.new.items ≡ out.old.items }
         ensures known { self.new.sessions.table.connections ≡ self.old.sessions.table.connections }
     {
-        match signature_refusal(signing, header, request) {
+        match signature_refusal(signing, header, request, known) {
             Some(refusal) if !is_cancel(header) => {
                 let answered = self.refuse_signature(*context, header, request, refusal, out)?;
                 *context = answered.0;

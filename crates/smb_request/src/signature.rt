@@ -1,6 +1,6 @@
 //! The signature of a request, and the key of its response ([MS-SMB2] 3.3.5.2.4, 3.3.4.1.1).
 
-ghost use Rattle.std.specs.Prelude.{ℕ, List, ◌≡◌};
+ghost use Rattle.std.specs.Prelude.{ℕ, List, ◌≡◌, IfSome};
 ghost use Rattle.std.specs.Option.{option_map};
 ghost use Rattle.std.specs.Str.{bytes_eq};
 ghost use Rattle.smb_signing.specs.Signature.{signature};
@@ -22,7 +22,7 @@ use smb_head::{Header, HeaderFlags};
 use smb_opens::Opens;
 use smb_refusals::RequestRefusal;
 use smb_session::{Authenticator, Signing};
-use smb_signing::Key;
+use smb_signing::{Key, KnownSignature};
 use smb_tree::Tree;
 use smb_wire::{Command, NtStatus};
 
@@ -33,11 +33,12 @@ fn is_signed(header: &Header) -> bool
     header.flags.contains(HeaderFlags::SIGNED)
 }
 
-/// Whether the signature of a request is its own by a key.
-fn bears_signature(key: Key, request: &[u8]) -> bool
+/// Whether the signature of a request is its own by a key. It may be known already by some key.
+fn bears_signature(key: Key, request: &[u8], known: Option<KnownSignature>) -> bool
+    requires { IfSome known (λ k. k.own ≡ signature k.key.bytes request.now) }
     ensures { result ≡ bytes_eq (header_of request.now).signature (signature key.bytes request.now) }
 {
-    key.has_signed(request)
+    key.has_signed_known(request, known)
 }
 
 /// Whether a request that was answered so let a session in: a SESSION_SETUP that succeeded.
@@ -57,13 +58,16 @@ fn key_of(signing: Option<Signing>) -> Option<Key>
     }
 }
 
-/// Why a request is refused by its signature, where the messages of its session are signed so.
+/// Why a request is refused by its signature, where the messages of its session are signed. Its own may be known already by
+/// some key.
 pub(crate) fn signature_refusal(
     signing: Option<Signing>,
     header: &Header,
     request: &[u8],
+    known: Option<KnownSignature>,
 ) -> Option<RequestRefusal>
-    requires { header.now ≡ header_of request.now }
+    requires header { header.now ≡ header_of request.now }
+    requires known { IfSome known (λ k. k.own ≡ signature k.key.bytes request.now) }
     ensures { result ≡ signature_refusal signing request.now }
 {
     let Some(Signing { key, required }) = signing else {
@@ -76,7 +80,7 @@ pub(crate) fn signature_refusal(
             None
         };
     }
-    if bears_signature(key, request) {
+    if bears_signature(key, request, known) {
         None
     } else {
         Some(RequestRefusal::SignatureWrong)

@@ -1,3 +1,4 @@
 pub mod Blocks
 pub mod Equal
 pub mod Signed
+pub mod Together

@@ -6,12 +6,12 @@ ghost use Rattle.smb_signing.specs.Signature.{padded_key, hmac};
 
 use sha2::{Digest, Sha256};
 
-const IPAD: u8 = 0x36;
+pub const IPAD: u8 = 0x36;
 
-const OPAD: u8 = 0x5C;
+pub const OPAD: u8 = 0x5C;
 
 /// The key filled up with zeros to a block, and a byte xored to each.
-fn padded_key(key: &[u8], byte: u8) -> [u8; 64]
+pub fn padded_key(key: &[u8], byte: u8) -> [u8; 64]
     requires { length key.now ≤ 64 }
     ensures { result ≡ padded_key key.now byte }
 {

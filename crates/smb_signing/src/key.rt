@@ -21,7 +21,7 @@ impl fmt::Debug for Key {
 
 /// The bytes before a message's signature, the signature, which is bytes 48 to 63 of its header (2.2.1.2), and the
 /// bytes behind it. Of a message that ends earlier the last parts are shorter, or empty.
-fn parts(message: &[u8]) -> (&[u8], &[u8], &[u8])
+pub(crate) fn parts(message: &[u8]) -> (&[u8], &[u8], &[u8])
     ensures front { result.0.now ≡ take 48 message.now }
     ensures signature { result.1.now ≡ take 16 (drop 48 message.now) }
     ensures rest { result.2.now ≡ drop 64 message.now }
@@ -33,7 +33,7 @@ fn parts(message: &[u8]) -> (&[u8], &[u8], &[u8])
 
 /// Whether two slices have the same bytes. Of slices of the same length it looks at each byte, wherever the first
 /// difference is.
-fn are_equal(left: &[u8], right: &[u8]) -> bool
+pub(crate) fn are_equal(left: &[u8], right: &[u8]) -> bool
     ensures { IsTrue result ↔ (left.now ≡ right.now) }
 {
     if left.len() != right.len() {

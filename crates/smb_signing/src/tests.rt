@@ -3,7 +3,7 @@
 mod recorded;
 mod rfc4231;
 
-use crate::Key;
+use crate::{Key, Message, signatures_of_four};
 use hex::FromHex;
 use recorded::{IMPACKET, RCLONE, RCLONE_AGAIN, SMBCLIENT, SMBCLIENT_202, Session};
 use std::alloc::Global;
@@ -61,6 +61,55 @@ fn recorded_messages_are_signed(rt: HostRuntime) {
             "{count} messages"
         );
     }
+}
+
+/// The first message of a session, and its key.
+fn first_of(alloc: Global, session: &Session) -> Option<(Key, Vec<u8>)> {
+    let key = Key::new(<[u8; 16] as FromHex>::from_hex(session.key).ok()?);
+    let message = hex::decode(alloc, session.messages.lines().next()?).ok()?;
+    Some((key, message))
+}
+
+/// Whether a message was sent with this signature.
+fn was_signed(message: &[u8], signature: &[u8; 16]) -> bool {
+    message.len() >= 64 && message[48..64] == signature[..]
+}
+
+/// Whether the first messages of four sessions have their signatures, and three of them beside a missing one.
+fn four_are_signed(alloc: Global) -> Option<bool> {
+    let (one, first) = first_of(alloc, &SMBCLIENT)?;
+    let (two, second) = first_of(alloc, &SMBCLIENT_202)?;
+    let (three, third) = first_of(alloc, &RCLONE)?;
+    let (four, fourth) = first_of(alloc, &RCLONE_AGAIN)?;
+    let (w, x, y, z) = signatures_of_four(
+        Some(Message {
+            key: one,
+            bytes: &first,
+        }),
+        Some(Message {
+            key: two,
+            bytes: &second,
+        }),
+        Some(Message {
+            key: three,
+            bytes: &third,
+        }),
+        Some(Message {
+            key: four,
+            bytes: &fourth,
+        }),
+    );
+    Some(
+        was_signed(&first, &w)
+            && was_signed(&second, &x)
+            && was_signed(&third, &y)
+            && was_signed(&fourth, &z),
+    )
+}
+
+#[test]
+fn four_recorded_messages_are_signed_at_once(rt: HostRuntime) {
+    assert!(rt; four_are_signed(rt.alloc()) == Some(true));
 }
 
 #[test]

@@ -5,7 +5,7 @@ ghost use Rattle.std.specs.Prelude.{◌≡◌, ◌<◌, ◌≤◌, true, length,
 use super::connection::{Connection, SilenceLimits};
 use super::door::Doors;
 use super::login_delay::key_of;
-use super::piece::{Piece, READ_SIZE};
+use super::piece::{PIECE_SIZE, Piece};
 use mio::Events;
 use std::alloc::{AllocError, Global};
 use std::io;
@@ -15,7 +15,7 @@ use std::time::Duration;
 
 /// What came of a read.
 pub(crate) enum Reading {
-    /// Bytes: they wait in the piece, or were kept back before.
+    /// Bytes: they are in the piece, or were kept back before.
     Bytes,
     /// Nothing for now.
     Nothing,
@@ -294,30 +294,19 @@ impl Connections {
         self.list[place].lending.note_turn(took_long);
     }
 
-    /// Makes the next piece that the one at a place is lent: of the bytes that were read last, where some of them wait, else of those
-    /// that are kept back. Tells whether the turn is to be timed.
+    /// Makes the next piece that the one at a place is lent: of the bytes that are kept back, where there are some, else of those
+    /// that were read. Tells whether the turn is to be timed.
     pub(crate) fn lend(&mut self, place: usize, piece: &mut Piece) -> bool
         requires { place < vec_len self.old.list }
     {
         let lending = &mut self.list[place].lending;
-        let is_timed = if piece.waits() {
-            piece.step();
-            lending.keep_back(piece)
-        } else {
+        let is_timed = if lending.has_more() {
             lending.lend_next(piece)
+        } else {
+            lending.keep_back(piece)
         };
         self.note(place);
         is_timed
-    }
-
-    /// Keeps back the bytes that wait behind a piece, which was lent, where their peer at a place did not take all that
-    /// was sent to it, or has to wait behind wrong passwords. Tells whether they are kept back.
-    pub(crate) fn keep_waiting(&mut self, place: usize, piece: &mut Piece) -> bool
-        requires { place < vec_len self.old.list }
-        ensures { vec_len self.new.list ≡ vec_len self.old.list }
-    {
-        let connection = &mut self.list[place];
-        connection.is_held() && connection.lending.keep_waiting(piece)
     }
 
     /// Reads from the one at a place, where no bytes of it are kept back.
@@ -336,7 +325,7 @@ impl Connections {
             }
             Ok(count) => {
                 connection.heard = now;
-                if count < READ_SIZE && !connection.closing {
+                if count < PIECE_SIZE && !connection.closing {
                     connection.readable = false;
                 }
                 Reading::Bytes
@@ -408,13 +397,6 @@ impl Connections {
                 self.note(place);
             }
         }
-    }
-
-    /// Whether the one at a place is kept back behind wrong passwords.
-    pub(crate) fn is_kept_back(&self, place: usize) -> bool
-        requires { place < vec_len self.now.list }
-    {
-        self.list[place].kept_until.is_some()
     }
 
     /// Notes whether the last login of the one at a place let its client in, and returns its address.

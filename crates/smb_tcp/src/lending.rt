@@ -2,7 +2,7 @@
 
 ghost use Rattle.std.specs.Prelude.{◌≤◌, length, vec_len, IfSome};
 
-use super::piece::{PIECE_SIZE, Piece};
+use super::piece::Piece;
 use smb_wire::{Command, u16_at, u32_at};
 use std::alloc::Global;
 
@@ -16,8 +16,12 @@ const COMMAND_AT: usize = 12;
 
 const NEXT_COMMAND_AT: usize = 20;
 
-/// How many requests of a chain are looked at.
+/// How many requests of a chain are looked at: as many as one may have.
 const MOST_LOOKED_AT: usize = 16;
+
+/// How many requests are lent at once behind those of the first frame: so many READs of 65,536 bytes are answered by 36,747,200
+/// bytes, and by four times as many those that the longest piece has room for.
+const MOST_LENT: usize = 560;
 
 /// How far a stream has come in its current frame.
 #[derive(Clone, Copy)]
@@ -79,22 +83,28 @@ impl FrameCursor {
         Some(at)
     }
 
-    /// Goes over bytes that begin with a frame, and tells whether one of their frames asks for much.
+    /// Goes over bytes that begin with a frame, and tells whether one of their frames asks for much, or all together
+    /// have more requests than are lent at once.
     fn has_much(&mut self, bytes: &[u8]) -> bool {
         let mut rest = bytes;
+        let mut count: usize = 0;
         let mut found = false;
         for _ in 0..bytes.len() {
-            found = found || asks_for_much(rest);
+            match requests_of(rest) {
+                Some(more) => count = count.saturating_add(more),
+                None => found = true,
+            }
             match self.end_of_frame(rest) {
                 Some(end) => rest = &rest[end..],
                 None => break,
             }
         }
-        found
+        found || count > MOST_LENT
     }
 
     /// Goes over what is lent of bytes that come next, and tells how many these are: all of them, or where the peer is dear, or
-    /// one of their frames asks for much, those up to the end of the first frame. It tells too whether there are others behind it.
+    /// one of their frames asks for much, or they have too many requests, those up to the end of the first frame. It tells too
+    /// whether there are others behind it.
     fn lend(&mut self, bytes: &[u8], is_dear: bool) -> (usize, bool)
         ensures { result.0 ≤ length bytes.now }
     {
@@ -106,7 +116,10 @@ impl FrameCursor {
             return (first, false);
         }
         let behind_first = *self;
-        if is_dear || begins && asks_for_much(&bytes[..first]) || self.has_much(&bytes[first..]) {
+        if is_dear
+            || begins && requests_of(&bytes[..first]).is_none()
+            || self.has_much(&bytes[first..])
+        {
             *self = behind_first;
             return (first, true);
         }
@@ -114,24 +127,24 @@ impl FrameCursor {
     }
 }
 
-/// Whether a QUERY_DIRECTORY, or a request of several credits, is among the requests of the frame that bytes begin with, as far
-/// as it is there.
-fn asks_for_much(bytes: &[u8]) -> bool {
+/// How many requests the frame has that bytes begin with, as far as it is there, and 1 at least; None where it asks for much: a
+/// QUERY_DIRECTORY, or a request of several credits, is among them.
+fn requests_of(bytes: &[u8]) -> Option<usize> {
     let mut at = HEAD;
-    for _ in 0..MOST_LOOKED_AT {
+    for count in 1..=MOST_LOOKED_AT {
         let Some(command) = u16_at(bytes, at.saturating_add(COMMAND_AT)) else {
-            return false;
+            return Some(count);
         };
         let charge = u16_at(bytes, at.saturating_add(CREDIT_CHARGE_AT));
         if command == Command::QueryDirectory.code().0 || charge.is_some_and(|charge| charge > 1) {
-            return true;
+            return None;
         }
         match u32_at(bytes, at.saturating_add(NEXT_COMMAND_AT)) {
-            None | Some(0) => return false,
+            None | Some(0) => return Some(count),
             Some(next) => at = at.saturating_add(next as usize),
         }
     }
-    false
+    Some(MOST_LOOKED_AT)
 }
 
 /// The bytes that came of a peer, and are lent to the share one frame after the other where a frame may be dear: so others
@@ -143,7 +156,7 @@ pub(crate) struct Lending {
     bytes: Vec<u8>,
     lent: usize,
     is_dear: bool,
-    ghost few: { vec_len bytes ≤ 262144 },
+    ghost few: { vec_len bytes ≤ 266240 },
     ghost within: { lent ≤ vec_len bytes },
 }
 
@@ -175,12 +188,11 @@ impl Lending {
         self.bytes.shrink_to_fit();
     }
 
-    /// Makes the next frame of the bytes that are kept back the piece, or what is there of it, at most as much as a piece may have.
-    /// These bytes are lent one frame at a time without another look at what the frames are: so each of them is gone over once. Tells
-    /// whether the turn is to be timed: so it is where others are left, or the peer is dear.
+    /// Makes the next frame of the bytes that are kept back the piece, or what is there of it. These bytes are lent one frame at a
+    /// time without another look at what the frames are: so each of them is gone over once. Tells whether the turn is to be timed:
+    /// so it is where others are left, or the peer is dear.
     pub(crate) fn lend_next(&mut self, piece: &mut Piece) -> bool {
         let bytes = &self.bytes[self.lent..];
-        let bytes = &bytes[..bytes.len().min(PIECE_SIZE)];
         let (count, _) = self.cursor.lend(bytes, true);
         piece.fill(&bytes[..count]);
         self.lent += count;
@@ -192,38 +204,28 @@ impl Lending {
 
     /// Keeps back these bytes, and tells whether there was memory for that.
     fn keep(&mut self, bytes: &[u8]) -> bool
-        requires { length bytes.now ≤ 262144 }
+        requires { length bytes.now ≤ 266240 }
     {
         self.lent = 0;
         self.bytes.clear();
         self.bytes.extend_from_slice(bytes).is_ok()
     }
 
-    /// Cuts a piece that came to what is lent of it at once, and keeps the rest back, with the bytes that wait behind it. Where there
-    /// is no memory for that, all of it is lent. Tells whether the turn is to be timed: so it is where several frames were there, or the
-    /// peer is dear. A frame that comes alone is lent alone in any case.
+    /// Cuts a piece that came to what is lent of it at once, and keeps the rest back. Where there is no memory for that, all of it
+    /// is lent. Tells whether the turn is to be timed: so it is where several frames were there, or the peer is dear. A frame that
+    /// comes alone is lent alone in any case.
     pub(crate) fn keep_back(&mut self, piece: &mut Piece) -> bool {
         let bytes = piece.bytes();
         let (count, others) = self.cursor.lend(bytes, self.is_dear);
-        let is_timed = self.is_dear || others || piece.waits();
+        let is_timed = self.is_dear || others;
         if count == bytes.len() {
             return is_timed;
         }
-        if self.keep(piece.rest(count)) {
+        if self.keep(&bytes[count..]) {
             piece.cut(count);
         } else {
             let _ = self.cursor.has_much(&bytes[count..]);
         }
         is_timed
-    }
-
-    /// Keeps back the bytes that wait behind a piece, which was lent, and tells whether there was memory for that.
-    pub(crate) fn keep_waiting(&mut self, piece: &mut Piece) -> bool {
-        let count = piece.bytes().len();
-        let is_kept = self.keep(piece.rest(count));
-        if is_kept {
-            piece.cut(count);
-        }
-        is_kept
     }
 }

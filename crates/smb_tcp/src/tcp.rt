@@ -23,13 +23,14 @@ use std::{io, net};
 /// A turn that takes so long is dear: until one of the same peer does not, it is lent one frame at a time.
 const DEAR_TURN_MILLISECONDS: u64 = 4;
 
-/// Fewer bytes than these that are owed to a peer wait for its answers to those that came with their requests.
-const SHORT_SEND: usize = 16_384;
-
 /// The streams of one listener or several, numbered from 1 as they are accepted, and read in turn: at most those of the
 /// connections that they are made for, and a newcomer's. All their room is made first, but for the counts of
 /// `with_address_limit`. All are looked at only where a limit of silence may have passed, where a newcomer finds all
 /// places taken, and where an address begins or ends to be kept back.
+///
+/// A turn is what one read of a peer brings, at most 266,240 bytes, and at most 560 requests behind those of its first
+/// frame. Where they are more, where a listing or a request of several credits is among them, or where the peer's last
+/// turn took 4 ms, it is one frame.
 ///
 /// No call waits for a peer. A stream of which a send took only a part is not read until one takes all. One that
 /// neither says nor takes anything for as long as the idle limit has ended, as if by its peer; so has one that was
@@ -346,8 +347,8 @@ impl<'a, R: Net + Clock> TcpPeers<'a, R> {
         }
     }
 
-    /// Lends the peer at a place its next piece: of the bytes that were read last, where some of them wait, else of
-    /// those that are kept back. Where its turn is to be timed, it is noted when that began.
+    /// Lends the peer at a place its next piece: of the bytes that are kept back, where there are some, else of those that
+    /// were read last. Where its turn is to be timed, it is noted when that began.
     fn lend(&mut self, place: usize) -> PeerEvent
         requires { place < vec_len self.old.connections.list }
         ensures opened { self.new.opened ≡ self.old.opened }
@@ -361,26 +362,6 @@ impl<'a, R: Net + Clock> TcpPeers<'a, R> {
             }
         }
         PeerEvent::Bytes(number)
-    }
-
-    /// Lends the next piece of the bytes that wait of the last read, where some do: they come before another read.
-    /// Where their peer did not take all that was sent to it, they are kept back, so that it is owed no more; so they
-    /// are behind wrong passwords, whose answers are sent before a wait.
-    fn lend_waiting(&mut self) -> Option<PeerEvent>
-        ensures opened { self.new.opened ≡ self.old.opened }
-        ensures once { IfSome result (λ event. OpensOnce event (numbers_to self.old.opened) (numbers_to self.old.opened)) }
-    {
-        if !self.piece.waits() {
-            return None;
-        }
-        let place = self.connections.place_of(self.turn)?;
-        if self.connections.keep_waiting(place, &mut self.piece) {
-            return self
-                .connections
-                .is_kept_back(place)
-                .then_some(PeerEvent::Idle);
-        }
-        Some(self.lend(place))
     }
 
     /// Reads from the connection at a place, or lends what came of it before.
@@ -404,7 +385,7 @@ impl<'a, R: Net + Clock> TcpPeers<'a, R> {
 }
 
 impl<R: Net + Clock> Peers for TcpPeers<'_, R> {
-    ghost use Rattle.std.specs.Prelude.{slice_range, [], false};
+    ghost use Rattle.std.specs.Prelude.{take, [], false};
     ghost use Rattle.smb_tcp.specs.Numbers.{numbers_to};
 
     ghost calls = { λ peers. [] };
@@ -413,7 +394,7 @@ impl<R: Net + Clock> Peers for TcpPeers<'_, R> {
 
     ghost opened = { λ peers. numbers_to peers.opened };
 
-    ghost piece_of = { λ peers. slice_range peers.piece.buffer.items peers.piece.begin peers.piece.end };
+    ghost piece_of = { λ peers. take peers.piece.end peers.piece.buffer.items };
 
     ghost failed = { λ peers. peers.failures };
 
@@ -426,13 +407,8 @@ impl<R: Net + Clock> Peers for TcpPeers<'_, R> {
             return PeerEvent::Idle;
         }
         if self.failures == u64::MAX {
-            self.piece.clear();
             return PeerEvent::Idle;
         }
-        if let Some(event) = self.lend_waiting() {
-            return event;
-        }
-        self.piece.clear();
         if let Some(place) = self.connections.owed_most() {
             return self.end(place, GivenUp::OwedMost);
         }
@@ -456,8 +432,7 @@ impl<R: Net + Clock> Peers for TcpPeers<'_, R> {
         let Some(place) = self.connections.place_of(number) else {
             return Ok(0);
         };
-        let waits_for_more = number == self.turn && bytes.len() < SHORT_SEND && self.piece.waits();
-        if self.failures == u64::MAX || waits_for_more {
+        if self.failures == u64::MAX {
             return Ok(0);
         }
         match self.connections.send(place, bytes, self.time) {

@@ -3,9 +3,11 @@ use Rattle.std.proofs.lemmas.List.{take_all}
 use Rattle.smb_engine.proofs.Chains.{chain_begins, writer_at, out_at, chain_more, chain_stopped, chain_so_far, chain_left, chain_count, done_least, kept_on}
 use Rattle.smb_engine.proofs.Steps.{front_kept, kept_more}
 use Rattle.smb_engine.proofs.Observed.{grew_none, chain_heard_one, chain_heard_more, chain_heard_all, chain_heard_none}
+use Rattle.smb_engine.proofs.Knowing.{one_whole}
 use Rattle.smb_engine.proofs.Endings.{ends_by_fault, none_admitted}
 use Rattle.smb_engine.specs.Run.{chain_step}
 use Rattle.smb_peers.specs.declared.ending.Ending.{Ending}
+use Rattle.smb_engine.proofs.chain.chain_payload.Goals.{then-len-eq1, else-len-eq1}
 use Rattle.smb_engine.proofs.chain.chain_payload.Goals as goal
 
 pub returns-in-Err-clause-ok : goal.returns-in-Err-clause-ok
@@ -96,3 +98,12 @@ returns-in-Err-clause-observed g c =
 pub returns-clause-observed : goal.returns-clause-observed
 returns-clause-observed g c =
     chain_heard_all g.A.Authenticator.meaning c.args.arrival c.args.server.now c.args.connection.now _ c.args.payload.now _ _ _ _ _ _ (c.in_default.ensures.admitted c.args.payload.now c.in-Ok.ensures.ok) c.in_default.ensures.taken (omega arith) c.loop-i.invariant.observed
+
+pub perform_one-requires-clause-known : goal.perform_one-requires-clause-known
+perform_one-requires-clause-known g c =
+    elim c.if-len-eq1.branch [
+      | then-len-eq1 w ↦
+          let one = one_whole c.args.payload.now c.request_at.result.1.now _ c.loop-i.i c.in-Ok.ensures.ok (sym c.len.ensures.len ∙ w.if-len-eq1.true) c.request_at.ensures.request in
+          rw (w.known-is, ← one) c.requires.known
+      | else-len-eq1 w ↦ rw w.known-is tt
+    ]

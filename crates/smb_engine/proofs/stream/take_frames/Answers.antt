@@ -1,9 +1,10 @@
-use Rattle.std.proofs.Common.{sym, ap, ◌∙◌, rules, arith}
+use Rattle.std.proofs.Common.{refl, sym, ap, ◌∙◌, rules, arith}
 use Rattle.std.proofs.lemmas.Bool.{false≢true}
 use Rattle.std.proofs.lemmas.List.{drop-drop, length-drop}
 use Rattle.smb_engine.proofs.Chains.{count_few, within_few}
 use Rattle.smb_engine.proofs.Steps.{steps_more, steps_over, steps_over_short, steps_refused, steps_stopped, steps_stopped_in, steps_within, steps_done, front_kept, kept_more}
-use Rattle.smb_engine.proofs.SoFar.{first_behind, tail_long}
+use Rattle.smb_engine.proofs.Knowing.{payloads_from}
+use Rattle.smb_engine.proofs.SoFar.{first_behind, tail_is, tail_long}
 use Rattle.smb_engine.proofs.Observed.{heard_more, heard_over, heard_all}
 use Rattle.smb_engine.proofs.stream.take_frames.Goals as goal
 
@@ -46,7 +47,17 @@ loop-payload-preserved g c =
       observed = heard_more g.A.Authenticator.meaning c.args.arrival g.K.Sink.hears _ _ _ _ _ _ _ _ _ _ _ _ _ _ _ _ c.loop-payload.invariant.observed
           (first_behind c.args.bytes.now c.loop-payload.used _ c.in-Some.ensures.first) e (sym (drop-drop _ c.loop-payload.used c.args.bytes.now)) c.in-Ok-Some.ensures.observed;
       known = c.put_payload.ensures.known ∙ c.loop-payload.invariant.known;
+      ahead = c.take_of-known.ensures.others c.in-Some.payload.now _
+          (payloads_from c.args.bytes.now c.loop-payload.used _ c.in-Some.payload.now (first_behind c.args.bytes.now c.loop-payload.used _ c.in-Some.ensures.first) refl);
     }
+
+pub take_of-known-requires : goal.take_of-known-requires
+take_of-known-requires g c = rw (tail_is c.args.bytes.now c.loop-payload.used) c.loop-payload.invariant.ahead
+
+pub put_payload-requires : goal.put_payload-requires
+put_payload-requires g c =
+    c.take_of-known.ensures.next c.in-Some.payload.now _
+    (payloads_from c.args.bytes.now c.loop-payload.used _ c.in-Some.payload.now (first_behind c.args.bytes.now c.loop-payload.used _ c.in-Some.ensures.first) refl)
 
 pub overflow_add-done : goal.overflow_add-done
 overflow_add-done g c =

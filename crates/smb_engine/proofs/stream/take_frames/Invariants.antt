@@ -2,6 +2,7 @@ use Rattle.std.proofs.Common.{◌≡◌, ◌-◌, ◌≤◌, length, take, drop}
 use Rattle.smb_wire.specs.Limits.{longest_payload}
 use Rattle.smb_engine.specs.SoFar.{StepsSoFar}
 use Rattle.smb_frame.specs.Reading.{payloads}
+use Rattle.smb_engine.specs.Ahead.{AreKnownOf}
 use Rattle.smb_engine.specs.Observed.{payloads_observed}
 use Rattle.smb_engine.proofs.Observed.{IsLeft}
 use Rattle.smb_engine.proofs.stream.take_frames.Given as goal
@@ -17,6 +18,7 @@ invariant-loop-payload g l = record {
       (payloads_observed g.A.Authenticator.meaning l.arrival l.server l.connection (payloads longest_payload (drop l.used l.bytes)))
       (payloads_observed g.A.Authenticator.meaning l.arrival l.fn.server l.fn.connection (payloads longest_payload l.bytes));
   known : l.server.sessions.table.connections ≡ l.fn.server.sessions.table.connections;
+  ahead : AreKnownOf (payloads longest_payload (drop l.used l.bytes)) l.ahead;
 }
 
 abbrev pub decreases-loop-payload : goal.decreases-loop-payload
