@@ -134,6 +134,31 @@ def no_other_signature_is_taken(program):
                 and status_of(once[0]) == 0 and not twice and bytes_of(share) == b'again!')
 
 
+def several_at_once_are_checked_and_signed(program):
+    """Of twelve WRITEs of several lengths, sent at once, one bears the signature of the one before it: that one alone is
+    refused. READs of all of them and of a chain, sent at once, are each answered with a signature over their bytes."""
+    lengths, wrong, size = (65_536,) * 3 + (1, 65_536, 30_000, 65_536, 64, 65_536, 65_536, 8_192, 65_536), 6, 65_536
+
+    def at_once(client, asked):
+        client.send(b''.join(asked))
+        return [messages_of(client.reply()) for _ in asked]
+
+    with served(program, 'required') as share:
+        client = comes_in(share)
+        number, place = opens(client), (client.session, 1)
+        asked = [signed(write(5 + i, number, i * size, bytes([65 + i]) * length, *place), client.key)
+                 for i, length in enumerate(lengths)]
+        asked[wrong] = frame(with_signature(asked[wrong][4:], asked[wrong - 1][4:][48:64]))
+        written = [it[0] for it in at_once(client, asked)]
+        asked = [signed(read(17 + i, number, i * size, length, *place), client.key) for i, length in enumerate(lengths)]
+        both = chain([read(29, number, 0, size, *place), read(30, number, 3 * size, 1, *place)])
+        found = sum(at_once(client, asked + [signed(both, client.key)]), [])
+        wanted = [bytes([65 + i if i != wrong else 0]) * length for i, length in enumerate(lengths)]
+        return ([status_of(it) for it in written] == [ACCESS_DENIED if i == wrong else 0 for i in range(len(lengths))]
+                and all(is_right(it, client.key) for it in written + found)
+                and [it[80:][:length] for it, length in zip(found, lengths + (size, 1))] == wanted + [b'A' * size, b'D'])
+
+
 def each_request_of_a_chain_is_checked(program):
     """Of three requests of a chain one that is changed is refused alone; so is one whose padding is changed."""
     def chain_of(client, number):
@@ -244,7 +269,8 @@ def words_that_do_not_go_together_are_named(program):
 
 
 TESTS = (who_signs_is_answered_signed, who_does_not_sign_is_refused_where_that_is_required,
-         no_changed_request_changes_a_file, no_other_signature_is_taken, each_request_of_a_chain_is_checked,
+         no_changed_request_changes_a_file, no_other_signature_is_taken,
+         several_at_once_are_checked_and_signed, each_request_of_a_chain_is_checked,
          who_is_gone_is_told_so_signed, guests_come_in_unsigned, without_signing_all_is_as_ever, a_recording_has_the_keys,
          words_that_do_not_go_together_are_named)
 
