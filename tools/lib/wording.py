@@ -12,8 +12,8 @@ import sys
 
 TOP = pathlib.Path(__file__).resolve().parents[2]
 # The most comment lines of each pattern, and the most lines of code, definitions or comments over 120 columns.
-MOST = {r"stands?": 245, r"told": 22, r"tells?": 99, r"so many": 171, r"hears?|heard": 51}
-LONGEST, MOST_LONG = 120, 1_506
+MOST = {r"stands?": 245, r"told": 22, r"tells?": 98, r"so many": 170, r"hears?|heard": 51}
+LONGEST, MOST_LONG = 120, 1_505
 COMMENT = re.compile(r"^\s*(?://[/!]?|--) (.*)$")
 
 

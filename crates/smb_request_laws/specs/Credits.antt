@@ -3,9 +3,8 @@ use Rattle.std.specs.Prelude.{◌≡◌, ℕ, ◌+◌, ◌<◌, ◌≤◌, lengt
 use Rattle.smb_session.specs.Window.{WindowState, GoodWindow, credits_granted, with_more}
 
 -- a client never runs dry: it is granted one credit at least, whatever it asks for, while it may use fewer than 256
--- MessageIds and numbers are left. It is granted no more than it asks for, or one where it asks for none; all that it asks
--- for, where there is room for them; and never so many that it may use more than 256 MessageIds, or one above 2^64 - 2
--- (3.3.1.1)
+-- MessageIds and numbers are left. It is granted no more than it asks for, or one where it asks for none; all that it
+-- asks for, where there is room for them; and it may never use more than 256 MessageIds, nor one above 2^64 - 2 (3.3.1.1)
 abbrev pub CreditsAreGrantedAsAskedFor : Type 0
 CreditsAreGrantedAsAskedFor =
     (window : WindowState) (asked : ℕ) →

@@ -1,10 +1,14 @@
 -- The actions of a run: the requests that it performed and the connections that it ended; and what each does to the
 -- files, as steps of the store ([MS-SMB2] 3.3.5.2, 3.3.7.1).
-use Rattle.std.specs.Prelude.{◌≡◌, ◌≢◌, ◌⊎◌, ℕ, Bool, true, false, List, [], ◌∷◌, ◌++◌, map, None, Some, MatchOption, if◌then◌else◌}
+use Rattle.std.specs.Prelude.{◌≡◌, ◌≢◌, ◌⊎◌, ℕ, Bool, true, false, List, [], ◌∷◌, ◌++◌, map, None, Some, MatchOption}
+use Rattle.std.specs.Prelude.{if◌then◌else◌}
 use Rattle.std.specs.Option.{option_map_or}
 use Rattle.smb_wire.specs.Limits.{most_in_any_dialect}
 use Rattle.smb_wire.specs.declared.nt_status.NtStatus.TheVariants.{Success}
-use Rattle.smb_body.specs.Requests.{RequestValue, asks_negotiate, asks_session_setup, asks_logoff, asks_tree_connect, asks_tree_disconnect, asks_create, asks_close, asks_flush, asks_read, asks_write, asks_lock, asks_cancel, asks_echo, asks_query_directory, asks_query_info, asks_set_info}
+use Rattle.smb_body.specs.Requests.{RequestValue, asks_negotiate, asks_session_setup, asks_logoff, asks_tree_connect}
+use Rattle.smb_body.specs.Requests.{asks_tree_disconnect, asks_create, asks_close, asks_flush, asks_read, asks_write}
+use Rattle.smb_body.specs.Requests.{asks_lock, asks_cancel, asks_echo, asks_query_directory, asks_query_info}
+use Rattle.smb_body.specs.Requests.{asks_set_info}
 use Rattle.smb_session.specs.Authenticator.{Meaning}
 use Rattle.smb_session.specs.Table.{numbers_on}
 use Rattle.smb_access.specs.declared.open_row.Owner.TheVariants.{Session, Tree}
@@ -12,7 +16,8 @@ use Rattle.smb_access.specs.declared.scan.Scan.{Scan}
 use Rattle.smb_info.specs.SetInformation.{set_class, asked_of}
 use Rattle.smb_info.specs.declared.set_info.SetInformationClass.{SetInformationClass}
 use Rattle.smb_opens.specs.State.{StoreState}
-use Rattle.smb_opens.specs.Steps.{StoreStep, creates, writes, locks, unlocks, sets_scan, closes, closes_all, stepped, stepped_all}
+use Rattle.smb_opens.specs.Steps.{StoreStep, creates, writes, locks, unlocks, sets_scan, closes, closes_all, stepped}
+use Rattle.smb_opens.specs.Steps.{stepped_all}
 use Rattle.smb_request.specs.declared.context.HeaderIds.{HeaderIds}
 use Rattle.smb_request.specs.Call.{body_of, call_of}
 use Rattle.smb_request.specs.declared.context.ContextOpen.TheVariants.{Refused}
@@ -108,7 +113,8 @@ IsLeftBy asks IsAnswered before after =
 -- the steps of the end of a connection: the opens of each of its sessions are closed, in rising number of the sessions
 -- (3.3.7.1)
 abbrev pub end_steps : {S : Type 0} → ServerState S → ℕ → List StoreStep
-end_steps server connection = map (λ session. closes_all (Session session)) (numbers_on server.sessions.table.sessions connection)
+end_steps server connection =
+    map (λ session. closes_all (Session session)) (numbers_on server.sessions.table.sessions connection)
 
 module _ {S : Type 0} (authenticator : Meaning S) where
   -- an action leaves the server, and gives the response, that the definition of its request or of the end of its
@@ -124,7 +130,8 @@ module _ {S : Type 0} (authenticator : Meaning S) where
   -- actions lead from one store to another: each begins with the store that the one before it left, and is as defined
   abbrev pub Lead : StoreState → List (Action S) → StoreState → Type 0
   Lead store [] left = store ≡ left
-  Lead store (action ∷ actions) left = ((before action).store ≡ store) × IsAsDefined action × Lead (after action).store actions left
+  Lead store (action ∷ actions) left =
+      ((before action).store ≡ store) × IsAsDefined action × Lead (after action).store actions left
 
 module _ {S : Type 0} (authenticator : Meaning S) where
   -- the actions of an event, in order

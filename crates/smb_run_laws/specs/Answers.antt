@@ -1,5 +1,6 @@
 -- Each request is answered once, in order, and a chain is performed whole.
-use Rattle.std.specs.Prelude.{◌≡◌, ℕ, ◌+◌, ◌==◌, not, Bool, true, false, List, [], ◌∷◌, map, filter, Some, is_some, MatchOption, if◌then◌else◌}
+use Rattle.std.specs.Prelude.{◌≡◌, ℕ, ◌+◌, ◌==◌, not, Bool, true, false, List, [], ◌∷◌, map, filter, Some, is_some}
+use Rattle.std.specs.Prelude.{MatchOption, if◌then◌else◌}
 use Rattle.std.specs.Option.{option_map_or}
 use Rattle.std.specs.List.{AllByRecursion, flat_map}
 use Rattle.smb_wire.specs.Commands.{code_of, known_command}
@@ -42,7 +43,8 @@ AreReplies (served ∷ requests) replies = MatchOption served.request
     ((reply : Reply) × (others : List Reply) × (replies ≡ reply ∷ others) × (reply.header.message_id ≡ 0)
     × AreReplies requests others)
     (λ request.
-    let is_cancel = option_map_or (λ command. elim command [ Cancel ↦ true | _ ↦ false ]) (known_command (header_of request).command.0) false in
+    let is_cancel = option_map_or (λ command. elim command [ Cancel ↦ true | _ ↦ false ])
+    (known_command (header_of request).command.0) false in
     MatchOption served.response
     ((is_cancel ≡ true) × AreReplies requests replies)
     (λ response. (is_cancel ≡ false)
@@ -67,7 +69,8 @@ pub record AnsweredPayload (S : Type 0) : Type 0 where
 
 -- of what is put out the frames, without the ends of connections
 abbrev pub frames_in : List Output → List Output
-frames_in = filter (λ output. elim output as (λ o. Bool) [ frame_to connection bytes ↦ true | end_of connection ↦ false ])
+frames_in =
+    filter (λ output. elim output as (λ o. Bool) [ frame_to connection bytes ↦ true | end_of connection ↦ false ])
 
 -- the requests among actions, each with its connection
 abbrev pub requests_in : {S : Type 0} → List (Action S) → List (ℕ × PerformedRequest S)
@@ -75,8 +78,8 @@ requests_in [] = []
 requests_in (serves connection moment served ∷ actions) = (connection, served) ∷ requests_in actions
 requests_in (disconnects server connection ∷ actions) = requests_in actions
 
--- all requests that were performed are in a list, in order, and the frames of their replies are all that are put out, in
--- order; which requests share a frame the law of a chain says
+-- all requests that were performed are in a list, in order, and the frames of their replies are all that are put
+-- out, in order; which requests share a frame the law of a chain says
 abbrev pub AreAnsweredInOrder : {S : Type 0} → List (ℕ × PerformedRequest S) → List Output → Type 0
 AreAnsweredInOrder {S} requests outputs =
     (answered : List (AnsweredPayload S))
@@ -90,7 +93,8 @@ module _ {S : Type 0} (authenticator : Meaning S) where
   -- is used afterwards; and what was used stays used (3.3.1.1, 3.3.5.2.3)
   abbrev pub AChainIsPerformedWhole : Type 0
   AChainIsPerformedWhole =
-      (arrival : Arrival) (server : ServerState S) (connection : Connection) (payload : List ℕ) (requests : List (List ℕ)) →
+      (arrival : Arrival) (server : ServerState S) (connection : Connection) (payload : List ℕ)
+      (requests : List (List ℕ)) →
       let step = chain_step authenticator arrival server connection payload in
       let ids = map
       (λ request. (header_of request).message_id)
@@ -114,7 +118,8 @@ module _ {S : Type 0} (authenticator : Meaning S) where
   -- that the connection then has is the one that they leave (3.3.1.2, 3.3.5.2.3)
   abbrev pub AChainTellsItsCredits : Type 0
   AChainTellsItsCredits =
-      (arrival : Arrival) (server : ServerState S) (connection : Connection) (payload : List ℕ) (requests : List (List ℕ)) →
+      (arrival : Arrival) (server : ServerState S) (connection : Connection) (payload : List ℕ)
+      (requests : List (List ℕ)) →
       let step = chain_step authenticator arrival server connection payload in
       admitted connection payload ≡ Some requests →
       (replies : List Reply) × (step.outputs ≡ reply_frame arrival.connection_id (joined_replies replies))

@@ -1,5 +1,6 @@
 -- A lock bars others until it is given back.
-use Rattle.std.specs.Prelude.{◌≡◌, ◌≢◌, ◌⊎◌, ℕ, ◌==◌, ◌&&◌, Bool, true, false, List, ◌∷◌, ◌++◌, length, is_some, Contains}
+use Rattle.std.specs.Prelude.{◌≡◌, ◌≢◌, ◌⊎◌, ℕ, ◌==◌, ◌&&◌, Bool, true, false, List, ◌∷◌, ◌++◌, length, is_some}
+use Rattle.std.specs.Prelude.{Contains}
 use Rattle.std.specs.List.{AllByRecursion, list_any}
 use Rattle.smb_body.specs.Lock.{LockAsked}
 use Rattle.smb_body.specs.Requests.{asks_lock, asks_read, asks_write}
@@ -34,7 +35,8 @@ LeavesLock lock (disconnects server connection) = Unit {0}
 -- 3.3.5.14)
 abbrev pub LocksBarOthers : {S : Type 0} → List (Action S) → Type 0
 LocksBarOthers {S} actions =
-    (front between back : List (Action S)) (owner locked_at connection moment file : ℕ) (locking served : PerformedRequest S)
+    (front between back : List (Action S)) (owner locked_at connection moment file : ℕ)
+    (locking served : PerformedRequest S)
     (it : LockAsked) (lock : Lock) →
     actions ≡ front ++ serves owner locked_at locking ∷ (between ++ serves connection moment served ∷ back) →
     (held : SucceedsOn file locking (asks_lock it)) → is_unlock (elements_asked it) ≡ false →

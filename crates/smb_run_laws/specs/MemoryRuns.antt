@@ -12,7 +12,7 @@ use Rattle.smb_engine.specs.State.{ShareState}
 use Rattle.smb_run_laws.specs.Actions.{Action, serves, disconnects, Lead, actions_of_event, actions_of_run}
 
 module _ {S : Type 0} (authenticator : Meaning S) where
-  -- the actions of a happening: where memory runs out in a piece its first so many requests, and the end of its
+  -- the actions of a happening: where memory runs out in a piece its first `done` requests, and the end of its
   -- connection
   abbrev pub actions_of_happening : ShareState S → Happening → List (Action S)
   actions_of_happening s (performed event) = actions_of_event authenticator s event
@@ -35,7 +35,8 @@ module _ {S : Type 0} (authenticator : Meaning S) where
   abbrev pub AServedRunIsItsActions : Type 0
   AServedRunIsItsActions =
       (s : ShareState S) (happenings : List Happening) →
-      Lead authenticator s.server.store (actions_of_happenings s happenings) (run_of authenticator s happenings).state.server.store
+      Lead authenticator s.server.store (actions_of_happenings s happenings)
+      (run_of authenticator s happenings).state.server.store
 
 -- this holds of the actions of every run from a good share, and where memory runs out in it too
 abbrev pub HoldsOfRuns : {S : Type 0} → Meaning S → (List (Action S) → Type 0) → Type 0

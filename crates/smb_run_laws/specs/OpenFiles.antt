@@ -14,12 +14,15 @@ abbrev pub OpenFilesKeepTheirBytes : {S : Type 0} → List (Action S) → Type 0
 OpenFilesKeepTheirBytes {S} actions =
     (front between back : List (Action S)) (first second : Action S) (number : ℕ) (row : OpenRow) →
     actions ≡ front ++ first ∷ (between ++ second ∷ back) → open_of (before first).store.opens number ≡ Some row →
-    is_some (open_of (before second).store.opens number) ≡ true → AllByRecursion (LeavesBytes row.entry) (first ∷ between) →
+    is_some (open_of (before second).store.opens number) ≡ true →
+    AllByRecursion (LeavesBytes row.entry) (first ∷ between) →
     bytes_of (before second).store.tree.rows row.entry ≡ bytes_of (before first).store.tree.rows row.entry
 
 -- no number of an open or an entry is given twice: one that names an open names no other one later, and one whose open
 -- has ended names none ([MS-SMB2] 3.3.1.10)
 abbrev pub NumbersAreGivenOnce : {S : Type 0} → List (Action S) → Type 0
 NumbersAreGivenOnce {S} actions =
-    (front between back : List (Action S)) (first second : Action S) → actions ≡ front ++ first ∷ (between ++ second ∷ back) →
-    GivesEachOpenOnce (before first).store (before second).store × GivesEachEntryOnce (before first).store (before second).store
+    (front between back : List (Action S)) (first second : Action S) →
+    actions ≡ front ++ first ∷ (between ++ second ∷ back) →
+    GivesEachOpenOnce (before first).store (before second).store
+    × GivesEachEntryOnce (before first).store (before second).store

@@ -1,5 +1,6 @@
 -- A client who keeps the rules of frames, chains and windows is served on.
-use Rattle.std.specs.Prelude.{◌≡◌, ◌≢◌, ℕ, Bool, true, ◌||◌, List, [], ◌∷◌, ◌++◌, length, drop, None, Some, is_some, if◌then◌else◌}
+use Rattle.std.specs.Prelude.{◌≡◌, ◌≢◌, ℕ, Bool, true, ◌||◌, List, [], ◌∷◌, ◌++◌, length, drop, None, Some, is_some}
+use Rattle.std.specs.Prelude.{if◌then◌else◌}
 use Rattle.std.specs.Option.{option_map_or}
 use Rattle.smb_wire.specs.Limits.{longest_payload}
 use Rattle.smb_frame.specs.Reading.{payloads, rest, fault_of}
@@ -42,7 +43,8 @@ module _ {S : Type 0} (authenticator : Meaning S) where
   -- piece of it is allowed; what happens on other connections is left open
   abbrev pub LetsGoOn : ℕ → ShareState S → Happening → Type 0
   LetsGoOn connection s (performed (opens other)) = Unit {0}
-  LetsGoOn connection s (performed (brings other moment piece)) = other ≡ connection → IsAllowedPiece s connection moment piece
+  LetsGoOn connection s (performed (brings other moment piece)) =
+      other ≡ connection → IsAllowedPiece s connection moment piece
   LetsGoOn connection s (performed (ends other)) = other ≢ connection
   LetsGoOn connection s (cut_short event done) = connection_of event ≢ connection
 

@@ -1,5 +1,6 @@
 -- What one client writes another reads.
-use Rattle.std.specs.Prelude.{◌≡◌, ℕ, ◌+◌, ◌<◌, ◌&&◌, Bool, true, false, nat_le, nat_lt, List, [], ◌∷◌, ◌++◌, length, None, Some, slice_get}
+use Rattle.std.specs.Prelude.{◌≡◌, ℕ, ◌+◌, ◌<◌, ◌&&◌, Bool, true, false, nat_le, nat_lt, List, [], ◌∷◌, ◌++◌, length}
+use Rattle.std.specs.Prelude.{None, Some, slice_get}
 use Rattle.std.specs.Option.{option_map_or}
 use Rattle.std.specs.List.{AllByRecursion}
 use Rattle.smb_wire.specs.Commands.{known_command}
@@ -55,7 +56,8 @@ LeavesByte entry place (disconnects server connection) = Unit {0}
 -- 2.1.5.3)
 abbrev pub IsReadAsWritten : {S : Type 0} → List (Action S) → Type 0
 IsReadAsWritten {S} actions =
-    (front between back : List (Action S)) (writer wrote_at reader read_at entry : ℕ) (writing reading : PerformedRequest S)
+    (front between back : List (Action S)) (writer wrote_at reader read_at entry : ℕ)
+    (writing reading : PerformedRequest S)
     (write : WriteAsked) (read : ReadRequest) →
     actions ≡ front ++ serves writer wrote_at writing ∷ (between ++ serves reader read_at reading ∷ back) →
     SucceedsOn entry writing (asks_write write) → SucceedsOn entry reading (asks_read read) →
